@@ -7,7 +7,7 @@ use Rattle.std.proofs.lemmas.List.Concat.{flat_map-append}
 use Rattle.arbiter_core.specs.Delivers.{Moment}
 use Rattle.arbiter_server.specs.Acts.{is_stamp, stamp_by}
 use Rattle.arbiter_server.proofs.Turning.{same_stamp}
-use Rattle.arbiter_server.specs.Games.{CommonView, Fresh}
+use Rattle.arbiter_server.specs.Games.{CommonView, Fresh, Shut}
 use Rattle.arbiter_server.specs.Room.{at_stamp}
 use Rattle.judge_core.specs.Tables.{Holding}
 use Rattle.lru.specs.LruCache.{LruCache}
@@ -31,7 +31,7 @@ use Rattle.game_server.specs.declared.seat.Seat.{Seat}
 use Rattle.game_server.specs.declared.server.Server.{Server}
 use Rattle.served_games.specs.Durable.{AreToldAt, FoundGame, GamesAreFound, IsDurableAfter, IsFoundIn, IsToldAt, KeepsAtOnce, StaysFound, behind, left_before, made_of}
 use Rattle.served_games.specs.PlaceKeepers.{PlaceKeeper}
-use Rattle.served_games.specs.ServedGames.{AreOverLeft, IsAt, LostAreClosed, MakesAll, PlaysAll, all_acts, game_at, heard_by, heard_in_turns, is_for, life_through, made_for, reply_for}
+use Rattle.served_games.specs.ServedGames.{AreOverLeft, IsAt, LostAreClosed, MakesAll, OpenedGame, PlaysAll, acts_in, all_acts, game_at, heard_by, heard_in_turns, is_for, life_through, made_for, reply_for}
 use Rattle.served_games.proofs.Asides.{WasTold, aside_one, asides, end_aside, lines_aside, other_stays, round_aside, told_by}
 use Rattle.served_games.proofs.Finding.{acts_found, behind_join, durable_first, durable_rest, found_stays, left_acts, over_join}
 use Rattle.served_games.proofs.Going.{Acts, Life, played_are_hosted, plays_join}
@@ -294,24 +294,36 @@ module _ {T P F K S L G : Type 0} (o : Outside T P F K S L) (facts : GamesFacts 
       (on_heard facts (facts.place old.games) (common old) stamp before life (heard_in_turns turns) heard (game_at mid stamp) (game_at new stamp) (behind past all) (behind (behind past all) rest) first
       (from_before o facts closes at_once stamp before old mid first.played.life heard (game_at new stamp) (behind (behind past all) rest) s more))
 
+  -- what was opened unasked first
+  pub record OpenedFound (old begun new : Server G F) (unasked heard : List Heard) (past : List Event) : Type 0 where
+    pub game : OpenedGame facts (facts.place old.games) (common old) stamp unasked (game_at begun stamp) heard
+    pub over : AreOverLeft (Shut before) (acts_in game)
+    pub found : IsFoundIn (facts.places (facts.place old.games) stamp) stamp past before game.life
+
   pub opened_found : (most : ℕ) (form : LineForm) (texts : List (List ℕ)) (to : List Recipient) (old begun mid new : Server G F) (unasked : List Heard) (asked : List Event) (turns : List Turn) (heard : List Heard) (past : List Event) → HearsAll o facts old unasked begun → InTurns o facts most form texts begun turns mid → HearsAll o facts mid heard new → AreToldAt facts stamp old → IsAt (game_at old stamp) Fresh
       → StaysFound (facts.places (facts.place old.games) stamp) stamp (behind past (flat_map made_of unasked)) asked
       → IsDurableAfter (facts.places (facts.place old.games) stamp) stamp past (flat_map made_of unasked ++ (asked ++ (run_events to turns ++ flat_map heard_events heard))) → IsFoundIn (facts.places (facts.place old.games) stamp) stamp past before Fresh
-      → FoundGame facts (facts.place old.games) (common old) stamp before Fresh (unasked ++ (heard_in_turns turns ++ heard)) (game_at new stamp) (behind past (flat_map made_of unasked ++ (asked ++ (run_events to turns ++ flat_map heard_events heard))))
+      → OpenedFound old begun new unasked (heard_in_turns turns ++ heard) (behind past (flat_map made_of unasked ++ (asked ++ (run_events to turns ++ flat_map heard_events heard))))
   opened_found most form texts to old begun mid new unasked asked turns heard past opens p hears told isat asks durable found =
-      let at = facts.places (facts.place old.games) stamp in
+      let place = facts.place old.games in
+      let at = facts.places place stamp in
       let opened = flat_map made_of unasked in
       let rest = run_events to turns ++ flat_map heard_events heard in
       let a = behind past opened in
       let b = behind a asked in
       let f = unasked_found o facts closes at_once stamp before old begun Fresh unasked past opens told isat (durable_first at stamp past opened (asked ++ rest) durable) found in
-      let first = on_events facts (facts.place old.games) (common old) stamp before Fresh unasked (game_at begun stamp) a asked asks f in
+      let first = on_events facts place (common old) stamp before Fresh unasked (game_at begun stamp) a asked asks f in
       let s = stays_all o facts closes stamp old begun unasked opens in
-      let more = work_found most form texts to begun mid new turns heard first.played.life b p hears (told_all o facts stamp old begun unasked opens told) first.played.at
-          (durable_mid o facts closes at_once stamp before old begun b rest s (durable_rest at stamp a asked rest (durable_rest at stamp past opened (asked ++ rest) durable))) (found_mid o facts closes at_once stamp before old begun b first.played.life s first.found) in
-      at_past facts (facts.place old.games) (common old) stamp before Fresh (unasked ++ (heard_in_turns turns ++ heard)) (game_at new stamp) (behind b rest) (behind past (opened ++ (asked ++ rest))) (behind_join past opened (asked ++ rest) ∙ behind_join a asked rest)
-      (on_heard facts (facts.place old.games) (common old) stamp before Fresh unasked (heard_in_turns turns ++ heard) (game_at begun stamp) (game_at new stamp) b (behind b rest) first
-      (from_before o facts closes at_once stamp before old begun first.played.life (heard_in_turns turns ++ heard) (game_at new stamp) (behind b rest) s more))
+      let q = from_before o facts closes at_once stamp before old begun first.played.life (heard_in_turns turns ++ heard) (game_at new stamp) (behind b rest) s
+          (work_found most form texts to begun mid new turns heard first.played.life b p hears (told_all o facts stamp old begun unasked opens told) first.played.at
+          (durable_mid o facts closes at_once stamp before old begun b rest s (durable_rest at stamp a asked rest (durable_rest at stamp past opened (asked ++ rest) durable))) (found_mid o facts closes at_once stamp before old begun b first.played.life s first.found)) in
+      let p = first.played in
+      let leads : life_through (left_before before Fresh) (all_acts p.each) ≡ left_before before p.life = left_acts before Fresh (all_acts p.each) ∙ ap (left_before before) (played_are_hosted facts place (common old) stamp Fresh p.life unasked p.each p.plays).on.leads in
+      record {
+        game = record { first = p.each; mid = p.life; opens = p.plays; at = p.at; each = q.played.each; life = q.played.life; plays = q.played.plays };
+        over = over_join (left_before before Fresh) (all_acts p.each) (all_acts q.played.each) first.over (subst (λ (l : Life). AreOverLeft l (all_acts q.played.each)) (sym leads) q.over);
+        found = subst (λ (l : List Event). IsFoundIn at stamp l before q.played.life) (sym (behind_join past opened (asked ++ rest) ∙ behind_join a asked rest)) q.found;
+      }
 
 pub games_are_found : {T P F K S L G : Type 0} (o : Outside T P F K S L) (facts : GamesFacts G) → LostAreClosed o facts → KeepsAtOnce facts → GamesAreFound o facts
 games_are_found o facts closes at_once most form texts to old new turns stamp before was past p told isat durable found = turns_found o facts closes at_once stamp before most form texts to old new turns was past p told isat durable found

@@ -23,7 +23,7 @@ use Rattle.game_server.specs.declared.seat.Seat.{Seat}
 use Rattle.game_server.specs.declared.server.Server.{Server}
 use Rattle.served_games.specs.Lasting.{IsToldStill}
 use Rattle.served_games.specs.PlaceKeepers.{Follows, PlaceKeeper, found_keeper}
-use Rattle.served_games.specs.ServedGames.{AreOverLeft, IsAt, PlayedGame, PlaysAll, all_acts, game_at, heard_in_turns}
+use Rattle.served_games.specs.ServedGames.{AreOverLeft, IsAt, OpenedGame, PlayedGame, acts_in, all_acts, game_at, heard_in_turns}
 
 -- where two are the same it is so, and where they aren't it is otherwise
 abbrev pub IfSame : List ℕ → List ℕ → Type 0 → Type 0 → Type 0
@@ -193,9 +193,8 @@ pub record ServedRun (G F : Type 0) : Type 0 where
   pub new : Server G F
   pub tail : List Event
 
--- what was heard, with what was opened unasked as such
 abbrev pub heard_in_run : {G F : Type 0} → ServedRun G F → List Heard
-heard_in_run r = r.unasked ++ (heard_in_turns r.turns ++ r.heard)
+heard_in_run r = heard_in_turns r.turns ++ r.heard
 
 -- what was made of a datagram, but that it came
 abbrev pub made_of : Heard → List Event
@@ -239,12 +238,12 @@ module _ {T P F K S L G : Type 0} (o : Outside T P F K S L) (facts : GamesFacts 
   AreServedRuns past [] = Unit {0}
   AreServedRuns past (r ∷ rs) = IsServedRun past r × AreServedRuns (behind past (events_of r)) rs
 
-  -- the game's acts in a run, and that all that they told is in whatever a start may find behind these events
+  -- the game's acts in a run, each opening of which is over what was left; and all that they told is in whatever a start may find behind these
+  -- events
   pub record LastsBehind (past : List Event) (r : ServedRun G F) : Type 0 where
-    pub each : List (List (Action PlaceKeeper))
-    pub life : GameStatus PlaceKeeper
-    pub plays : PlaysAll facts place (common r.old) stamp Fresh (heard_in_run r) each life
-    pub lasts : (found : Option (List ℕ)) → MayFind at_place stamp past found → AllByRecursion (IsToldStill (found_keeper found)) (all_acts each)
+    pub game : OpenedGame facts place (common r.old) stamp r.unasked (game_at r.begun stamp) (heard_in_run r)
+    pub over : AreOverLeft Fresh (acts_in game)
+    pub lasts : (found : Option (List ℕ)) → MayFind at_place stamp past found → AllByRecursion (IsToldStill (found_keeper found)) (acts_in game)
 
 -- THE LAW: Where records are put at once and are durable, whatever a start may find of a game behind any runs, wherever each of them stopped, is
 -- a record in which all is that each answer told: as many moves as were acknowledged, the same ones, and the verdict at its ply. What was
