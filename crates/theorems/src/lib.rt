@@ -62,6 +62,7 @@ mod hosts;
 mod listens;
 mod recording;
 mod seals;
+mod served;
 mod sources;
 mod store_hosts;
 
@@ -72,6 +73,9 @@ pub use hosts::{acks_are_found, fronts_are_runs, hosts_are_worlds, hosts_tell_th
 pub use listens::{listen_beside_a_host, listens_are_hosted, listens_are_worlds};
 pub use recording::{MadeAt, Recorded, Recording};
 pub use seals::no_tag_no_forgery;
+pub use served::{
+    served_are_hosted, served_are_worlds, served_beside_a_host, served_files_are_hosted,
+};
 pub use sources::{sends_the_log, sources_tell_the_truth};
 pub use store_hosts::{
     answers_are_found, fronts_are_found, hosts_over_stores, store_keeps_what_it_told,
