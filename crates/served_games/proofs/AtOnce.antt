@@ -19,7 +19,7 @@ use Rattle.served_games.proofs.Stamping.{paths_apart, stamp_fits, stamps_apart}
 
 -- ---- a file
 
-if_same : (path : List ℕ) (so otherwise : Type 0) → IfSame path path so otherwise → so
+pub if_same : (path : List ℕ) (so otherwise : Type 0) → IfSame path path so otherwise → so
 if_same path so otherwise (inl h) = h.1
 if_same path so otherwise (inr h) = absurd (h.0 refl)
 

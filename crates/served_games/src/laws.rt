@@ -4,6 +4,7 @@ ghost use Rattle.game_folder.specs.FolderGames.{folder_games_facts};
 ghost use Rattle.game_folder.specs.OneGame.{one_game_facts};
 ghost use Rattle.served_games.specs.Durable.{GamesAreFound, KeepsAtOnce, RunsLast};
 ghost use Rattle.served_games.specs.Lasting.{EachLasts};
+ghost use Rattle.served_games.specs.OneGames.{OneGameKeepsWhatItTold};
 ghost use Rattle.served_games.specs.ServedGames.{GamesArePlayed, PlayedAreHosted};
 
 use game_folder::Games;
@@ -58,4 +59,10 @@ pub fn folder_games_last<S: System>(_system: &S)
 pub fn one_game_lasts<S: System>(_system: &S)
     ensures found { GamesAreFound (S.outside _system.now) one_game_facts }
     ensures last { RunsLast (S.outside _system.now) one_game_facts }
+{}
+
+/// What one game told stays, over all runs of new servers of it, each of which opens it unasked, and wherever each of them stopped. The premises
+/// are in the statement (`specs/OneGames.antt`): the game has its stamp by the tables of its servers; and the file of its record is durable.
+pub fn one_game_keeps_what_it_told<S: System>(_system: &S)
+    ensures { OneGameKeepsWhatItTold (S.outside _system.now) }
 {}

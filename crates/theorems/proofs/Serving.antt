@@ -42,12 +42,14 @@ use Rattle.game_server.specs.declared.server.Server.{Server}
 use Rattle.served_games.specs.Durable.{AreServedRuns, IsDurableAfter, KeepsAtOnce, LastsBehind, ServedRun, behind, events_of_all, heard_in_run}
 use Rattle.served_games.specs.PlaceKeepers.{PlaceKeeper, place_facts, place_keepers}
 use Rattle.served_games.specs.ServedGames.{AreOverLeft, IsAt, OpenedGame, acts_in, all_acts, game_at, heard_in_turns, is_for, reply_for, reply_to}
+use Rattle.served_games.specs.Unasked.{Begins, WithNone, WithOne}
 use Rattle.served_games.proofs.Enduring.{closed_at, runs_last}
 use Rattle.served_games.proofs.Going.{Acts, Life, alone, goes_join, opening_on, over_first, over_rest, own_join, playing_on}
 use Rattle.served_games.proofs.Lost.{lost_are_closed}
+use Rattle.served_games.proofs.OneGames.{begun_hears}
 use Rattle.served_games.proofs.Running.{all_played, before, games_are_played, stays_all}
 use Rattle.theorems.specs.Interleavings.{IsHostOf, IsRunOfHost}
-use Rattle.theorems.specs.Served.{AreRequests, Begins, GoesAsHost, IsHostedRun, IsRequest, IsRunAt, ServedAreHosted, ServedRunsAreHosted, WithNone, WithOne, opened_as, requested_in, unanswered}
+use Rattle.theorems.specs.Served.{AreRequests, GoesAsHost, IsHostedRun, IsRequest, IsRunAt, ServedAreHosted, ServedRunsAreHosted, requested_in, unanswered}
 use Rattle.theorems.proofs.Weaving.{is_good, is_up, no_fault}
 
 -- ---- an answer to a request changes nothing
@@ -226,28 +228,22 @@ is_request r stamp is = subst IsRequest (sym is) tt
 opener_heard : (stamp : Stamp) → length stamp ≡ 16 → heard_in (message_text (opener stamp)) ≡ Ok (opener stamp)
 opener_heard stamp size = heard (message_text (opener stamp)) (opener stamp) (record { in_range = (omega arith, omega arith, omega arith); stamp = size; text = refl })
 
-record BegunSo {T P F K S L G : Type 0} (o : Outside T P F K S L) (facts : GamesFacts G) (first : Server G F) (unasked : List Heard) (old : Server G F) : Type 0 where
-  hears : HearsAll o facts first unasked old
-  requests : AreRequests unasked
-
-begun_so : {T P F K S L G : Type 0} (o : Outside T P F K S L) (facts : GamesFacts G) (first old : Server G F) (unasked : List Heard) → Begins o facts first unasked old → BegunSo o facts first unasked old
-unfolding HearsAll
-begun_so o facts first old unasked (WithNone same none) = subst (λ (l : List Heard). BegunSo o facts first l old) (sym none) (record { hears = same; requests = tt })
-begun_so o facts first old unasked (WithOne stamp result events size u is) =
-    subst (λ (l : List Heard). BegunSo o facts first l old) (sym is)
-    (record { hears = (old, u.hears, refl); requests = (is_request (heard_in (message_text (opener stamp))) stamp (opener_heard stamp size), tt) })
+begun_requests : {T P F K S L G : Type 0} (o : Outside T P F K S L) (facts : GamesFacts G) (first old : Server G F) (unasked : List Heard) → Begins o facts first unasked old → AreRequests unasked
+begun_requests o facts first old unasked (WithNone same none) = subst AreRequests (sym none) tt
+begun_requests o facts first old unasked (WithOne stamp result events size u is) = subst AreRequests (sym is) (is_request (heard_in (message_text (opener stamp))) stamp (opener_heard stamp size), tt)
 
 -- ---- runs
 
 pub served_are_hosted : {T P F K S L G : Type 0} (o : Outside T P F K S L) (facts : GamesFacts G) → ServedAreHosted o facts
 served_are_hosted o facts game who first old new unasked most n form texts to earlier later result none of begins run =
-    let b = begun_so o facts first old unasked begins in
+    let hears = begun_hears o facts first old unasked begins in
+    let requests = begun_requests o facts first old unasked begins in
     let closes = lost_are_closed o facts in
-    let p = all_played o facts closes game.stamp first old Fresh unasked b.hears (closed_at first (open_at first game.stamp) (none game.stamp)) in
+    let p = all_played o facts closes game.stamp first old Fresh unasked hears (closed_at first (open_at first game.stamp) (none game.stamp)) in
     let turns = with_last run.turns run.last in
-    let q = before o facts closes game.stamp first old p.life (heard_in_turns turns) (game_at new game.stamp) (stays_all o facts closes game.stamp first old unasked b.hears)
+    let q = before o facts closes game.stamp first old p.life (heard_in_turns turns) (game_at new game.stamp) (stays_all o facts closes game.stamp first old unasked hears)
         (games_are_played o facts closes most form texts old new turns game.stamp p.life run.in_turn p.at) in
-    goes_as facts (facts.place first.games) (common first) game who of unasked b.requests old (heard_in_turns turns)
+    goes_as facts (facts.place first.games) (common first) game who of unasked requests old (heard_in_turns turns)
     (record { first = p.each; mid = p.life; opens = p.plays; at = p.at; each = q.each; life = q.life; plays = q.plays })
 
 each_hosted : {T P F K S L G : Type 0} (o : Outside T P F K S L) (facts : GamesFacts G) (place : facts.Place) (game : Judged) (who : ArbiterId) (setup : SetupView) (past : List Event) (runs : List (ServedRun G F))

@@ -4,20 +4,17 @@
 -- What a run does of a game are its acts, by `OpenedGame` of served_games. Of these one is left out: the answer by which the game was opened
 -- unasked. Nobody sent that request, the answer changes nothing, and its reply goes to nobody. A request of the game's own is `Asks` of
 -- `Interleavings.antt`.
-use Rattle.std.specs.Prelude.{◌≡◌, ◌++◌, ℕ, List, [], ◌∷◌, length, Option, None, Result, Ok, Err}
+use Rattle.std.specs.Prelude.{◌≡◌, ◌++◌, ℕ, List, [], ◌∷◌, Option, None, Result, Ok, Err}
 use Rattle.std.specs.List.{AllByRecursion}
 use Rattle.arbiter_core.specs.Setups.{SetupView}
 use Rattle.arbiter_server.specs.Acts.{Action, Unread, Strange, Refuses, Opens, Answers, Closes}
 use Rattle.arbiter_server.specs.Folders.{Keepers}
 use Rattle.arbiter_server.specs.Games.{CommonView, Fresh, GameStatus, Open, Shut}
-use Rattle.arbiter_server.specs.declared.fault.OpenGameError.{OpenGameError}
 use Rattle.move_msg.specs.Heard.{heard_in}
-use Rattle.move_msg.specs.Messages.{message_text}
 use Rattle.move_msg.specs.declared.arbiter_id.ArbiterId.{ArbiterId}
 use Rattle.move_msg.specs.declared.message.Message.{Message}
 use Rattle.move_msg.specs.declared.message.Message.TheVariants.{Move, Ack, Verdict, Fetch}
 use Rattle.move_msg.specs.declared.message.MessageFault.{MessageFault}
-use Rattle.move_msg.specs.declared.stamp.Stamp.{Stamp}
 use Rattle.relay_world.specs.Worlds.{Judged}
 use Rattle.system_io.specs.declared.output.WriteFault.{WriteFault}
 use Rattle.system_io.specs.declared.recipient.Recipient.{Recipient}
@@ -29,12 +26,12 @@ use Rattle.game_server.specs.Rounds.{Heard}
 use Rattle.game_server.specs.Runs.{Serves, with_last}
 use Rattle.game_server.specs.Seats.{common, open_at}
 use Rattle.game_server.specs.Sending.{request}
-use Rattle.game_server.specs.Starting.{OpensUnasked, opener, request_at}
-use Rattle.game_server.specs.declared.seat.Reply.{Reply}
+use Rattle.game_server.specs.Starting.{request_at}
 use Rattle.game_server.specs.declared.server.Server.{Server}
 use Rattle.served_games.specs.Durable.{AreServedRuns, IsDurableAfter, IsToldAt, MayFind, ServedRun, events_of_all, heard_in_run}
 use Rattle.served_games.specs.PlaceKeepers.{Follows, PlaceKeeper, found_keeper, place_keepers}
 use Rattle.served_games.specs.ServedGames.{AreOverLeft, OpenedGame, acts_in, all_acts, game_at, heard_in_turns}
+use Rattle.served_games.specs.Unasked.{Begins}
 use Rattle.theorems.specs.Interleavings.{IsHostOf, IsRunOfHost}
 use Rattle.theorems.specs.Listens.{AreAsHosts}
 
@@ -63,16 +60,6 @@ IsRequest (Err fault) = Unit {0}
 -- each game that was opened unasked was so as by a request
 abbrev pub AreRequests : List Heard → Type 0
 AreRequests unasked = AllByRecursion (λ h. IsRequest (heard_in h.datagram)) unasked
-
--- a game that was opened unasked, as a datagram that was heard
-abbrev pub opened_as : Stamp → List Event → Reply → Heard
-opened_as stamp events reply = record { from = None; datagram = message_text (opener stamp); events = events; reply = reply }
-
--- A run begins with this server, which was another one with no game open: nothing was opened since, or one game was, unasked.
-pub data Begins {T P F K S L G : Type 0} (o : Outside T P F K S L) (facts : GamesFacts G) (first : Server G F) (unasked : List Heard) (old : Server G F) : Type 0 where
-  WithNone : old ≡ first → unasked ≡ [] → Begins o facts first unasked old
-  WithOne : (stamp : Stamp) (result : Result (Unit {0}) OpenGameError) (events : List Event) → length stamp ≡ 16
-      → (u : OpensUnasked o facts first old stamp result events) → unasked ≡ opened_as stamp events u.reply ∷ [] → Begins o facts first unasked old
 
 -- ---- a run as one of a host
 
