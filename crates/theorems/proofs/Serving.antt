@@ -185,25 +185,25 @@ module _ {G : Type 0} (facts : GamesFacts G) (place : facts.Place) (t : CommonVi
   -- ---- a game in a run
 
   module _ (unasked : List Heard) (requests : AreRequests unasked) (begun : Option (Moment DraftView)) (heard : List Heard) (p : OpenedGame facts place t game.stamp unasked begun heard) where
-    abbrev first : Acts
-    first = all_acts p.first
+    abbrev opened : Acts
+    opened = all_acts p.first
 
-    abbrev each : Acts
-    each = all_acts p.each
+    abbrev played : Acts
+    played = all_acts p.each
 
-    is_run : AreOverLeft Fresh (acts_in p) → IsRunOfHost Ks game who (unanswered first ++ each)
+    is_run : AreOverLeft Fresh (acts_in p) → IsRunOfHost Ks game who (unanswered opened ++ played)
     is_run over =
         let opens = opening_on facts place t game.stamp unasked begun heard p in
         let plays = playing_on facts place t game.stamp unasked begun heard p in
         let asked = subst (AllByRecursion IsReplyTo) (sym opens.on.replies_are) (replies_so game.stamp unasked requests) in
-        let early = goes_rest Fresh p.mid first tt (opens.on.goes (over_first facts place t game.stamp unasked begun heard p over)) (on_requests first asked) in
+        let early = goes_rest Fresh p.mid opened tt (opens.on.goes (over_first facts place t game.stamp unasked begun heard p over)) (on_requests opened asked) in
         let late = plays.on.goes (over_rest facts place t game.stamp unasked begun heard p over) in
-        let own = own_join game.stamp (unanswered first) each (own_rest game.stamp first opens.on.own) plays.on.own in
+        let own = own_join game.stamp (unanswered opened) played (own_rest game.stamp opened opens.on.own) plays.on.own in
         record {
           common = t;
           of = of;
           life = p.life;
-          goes = subst (λ (l : Acts). Goes Ks t game.stamp Fresh l p.life) (sym (alone facts place t game.stamp (unanswered first ++ each) own)) (goes_join Ks t game.stamp Fresh p.mid p.life (unanswered first) each early late);
+          goes = subst (λ (l : Acts). Goes Ks t game.stamp Fresh l p.life) (sym (alone facts place t game.stamp (unanswered opened ++ played) own)) (goes_join Ks t game.stamp Fresh p.mid p.life (unanswered opened) played early late);
         }
 
   -- ---- what is requested

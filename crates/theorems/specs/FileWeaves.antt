@@ -97,6 +97,7 @@ abbrev pub ActsIf : {F : Type 0} → Bool → (F → KeptFacts) → Judged → A
 ActsIf true facts game who log old act new = ActsAt facts game who log old act new
 ActsIf false facts game who log old act new = new ≡ old
 
+-- such a host never asks
 abbrev pub DoesAt : {F : Type 0} → (F → KeptFacts) → Judged → ArbiterId → List Message → Held F → HostEvent (FileKeeper F) → Held F → Type 0
 DoesAt facts game who log old (Does act) new = ActsIf (is_stamp game.stamp (game_of act)) facts game who log old act new
 DoesAt {F} facts game who log old Asks new = ⊥

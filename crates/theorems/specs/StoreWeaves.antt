@@ -96,7 +96,7 @@ abbrev pub runs_in : {K : Type 0} → List (HostEvent K) → List (List (Action 
 runs_in deeds = first_run deeds ∷ later_runs deeds
 
 -- premise (the network, whoever has the keys): a move or a request of the game came only if it was sent before, by the source or by one of
--- the two. Among what was sent here is each answer that went out by then, and some that were lost.
+-- the two. Among what was sent here is each answer that went out by then, and some that were lost. Such a host never asks.
 abbrev pub HearsNoForgery : {K : Type 0} → Judged → List Message → HostEvent K → Type 0
 HearsNoForgery game log (Does act) = IfAnswers (λ e. IsNoForgery game log e.datagram) act
 HearsNoForgery game log Asks = ⊥
