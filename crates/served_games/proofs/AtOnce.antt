@@ -1,17 +1,17 @@
 -- Records that are put in files are put at once, each in its own.
-use Rattle.std.proofs.Common.{◌≡◌, ◌≢◌, ◌⊎◌, inl, inr, ◌∙◌, ℕ, Bool, false, true, List, [], ◌∷◌, ◌++◌, Option, Some, None, refl, sym, ap, subst}
+use Rattle.std.proofs.Common.{◌≡◌, ◌≢◌, ◌⊎◌, inl, inr, ◌∙◌, ℕ, Bool, false, true, List, [], ◌∷◌, Option, Some, refl, sym, ap, subst}
 use Rattle.std.specs.Prelude.{Result, Ok, Err}
 use Rattle.std.specs.Str.{bytes_eq}
-use Rattle.arbiter_server.specs.GameFolders.{game_path, kept_path}
+use Rattle.arbiter_server.specs.GameFolders.{kept_path}
 use Rattle.arbiter_server.specs.declared.fault.OpenGameError.{OpenGameError}
 use Rattle.arbiter_server.specs.declared.fault.OpenGameError.TheVariants as unopened
 use Rattle.arbiter_server.specs.declared.games.GameConfig.{GameConfig}
 use Rattle.system_io.specs.declared.reading.ReadFault.{ReadFault}
 use Rattle.system_io.specs.declared.reading.ReadFault.TheVariants as read
-use Rattle.timeline.specs.Events.{Event, FileOpened, FileSought, Found, Put}
+use Rattle.timeline.specs.Events.{Event, FileOpened, Found, Put}
 use Rattle.game_folder.specs.FolderGames.{FindsInFolder, HadNoPath, Sought, folder_games_facts}
 use Rattle.game_folder.specs.OneGame.{one_game_facts}
-use Rattle.game_folder.specs.Places.{InFile, KeptAt}
+use Rattle.game_folder.specs.Places.{InFile}
 use Rattle.game_folder.specs.RecordFiles.{HadNoRoom, NotOpened, Started, TakesFromFile, puts_in_file, started}
 use Rattle.served_games.specs.Durable.{IfSame, IsDurableAfter, IsToldAt, KeepsAtOnce, MayFind, StaysFound, behind}
 use Rattle.served_games.proofs.Finding.{stays_none}

@@ -103,9 +103,9 @@ module _ {T P F K S L G : Type 0} (o : Outside T P F K S L) (facts : GamesFacts 
       f =
           subst (DoneAt before (behind (behind past r.first) (work_of r)) r) is.there
           (let q = opened_found o facts closes at_once stamp before is.most is.form is.texts r.to r.old r.begun r.mid r.new r.unasked r.asked r.turns r.heard (behind past r.first) is.opens is.in_turns is.hears told (closed_at r.old (open_at r.old stamp) (is.closed stamp))
-              (subst (λ (x : facts.Place). StaysFound (facts.places x stamp) stamp (behind (behind past r.first) (flat_map made_of r.unasked)) r.asked) (sym is.there) is.asked_stays)
-              (subst (λ (x : facts.Place). IsDurableAfter (facts.places x stamp) stamp (behind past r.first) (work_of r)) (sym is.there) durable_work)
-              (subst (λ (x : facts.Place). IsFoundIn (facts.places x stamp) stamp (behind past r.first) before Fresh) (sym is.there) found_first) in
+          (subst (λ (x : facts.Place). StaysFound (facts.places x stamp) stamp (behind (behind past r.first) (flat_map made_of r.unasked)) r.asked) (sym is.there) is.asked_stays)
+          (subst (λ (x : facts.Place). IsDurableAfter (facts.places x stamp) stamp (behind past r.first) (work_of r)) (sym is.there) durable_work)
+          (subst (λ (x : facts.Place). IsFoundIn (facts.places x stamp) stamp (behind past r.first) before Fresh) (sym is.there) found_first) in
           (q.game, q.over, q.found))
 
       by : DoneAt before (behind (behind past r.first) (work_of r)) r place → RunDone before past r

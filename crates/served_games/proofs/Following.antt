@@ -315,8 +315,8 @@ module _ {T P F K S L G : Type 0} (o : Outside T P F K S L) (facts : GamesFacts 
       let first = on_events facts place (common old) stamp before Fresh unasked (game_at begun stamp) a asked asks f in
       let s = stays_all o facts closes stamp old begun unasked opens in
       let q = from_before o facts closes at_once stamp before old begun first.played.life (heard_in_turns turns ++ heard) (game_at new stamp) (behind b rest) s
-          (work_found most form texts to begun mid new turns heard first.played.life b p hears (told_all o facts stamp old begun unasked opens told) first.played.at
-          (durable_mid o facts closes at_once stamp before old begun b rest s (durable_rest at stamp a asked rest (durable_rest at stamp past opened (asked ++ rest) durable))) (found_mid o facts closes at_once stamp before old begun b first.played.life s first.found)) in
+      (work_found most form texts to begun mid new turns heard first.played.life b p hears (told_all o facts stamp old begun unasked opens told) first.played.at
+      (durable_mid o facts closes at_once stamp before old begun b rest s (durable_rest at stamp a asked rest (durable_rest at stamp past opened (asked ++ rest) durable))) (found_mid o facts closes at_once stamp before old begun b first.played.life s first.found)) in
       let p = first.played in
       let leads : life_through (left_before before Fresh) (all_acts p.each) ≡ left_before before p.life = left_acts before Fresh (all_acts p.each) ∙ ap (left_before before) (played_are_hosted facts place (common old) stamp Fresh p.life unasked p.each p.plays).on.leads in
       record {

@@ -1,22 +1,20 @@
 -- What one game told lasts.
-use Rattle.std.proofs.Common.{◌≡◌, ◌∙◌, inl, inr, ℕ, List, [], ◌∷◌, Option, Some, None, refl, sym, ap, subst}
+use Rattle.std.proofs.Common.{◌≡◌, ◌∙◌, inl, ℕ, List, [], ◌∷◌, refl, sym, ap, subst}
 use Rattle.std.specs.Prelude.{Ok}
-use Rattle.board_core.specs.declared.parts.Parts.{Parts}
 use Rattle.arbiter_core.specs.Setups.{SetupView}
 use Rattle.arbiter_server.specs.GameFiles.{GameContents, game_as_told}
-use Rattle.arbiter_server.specs.Games.{CommonView, IsGameOf, setup_of}
+use Rattle.arbiter_server.specs.Games.{CommonView, setup_of}
 use Rattle.arbiter_server.specs.declared.games.GameConfig.{GameConfig}
 use Rattle.timeline.specs.Events.{Event, Found}
 use Rattle.timeline.specs.Outsides.{Outside}
 use Rattle.game_folder.specs.Holdings.{GamesFacts}
 use Rattle.game_folder.specs.OneGame.{OneGameView, one_game_facts}
-use Rattle.game_folder.specs.Places.{InFile}
 use Rattle.game_server.specs.Rounds.{Heard, HearsAll}
 use Rattle.game_server.specs.Seats.{common}
 use Rattle.game_server.specs.declared.server.Server.{Server}
-use Rattle.served_games.specs.Durable.{AreServedRuns, IsServedRun, MayFind, ServedRun, behind, events_of}
+use Rattle.served_games.specs.Durable.{AreServedRuns, IsServedRun, ServedRun, behind, events_of}
 use Rattle.served_games.specs.OneGames.{AreRunsOfOne, IsRunOfOne, OneGameKeepsWhatItTold, one_place}
-use Rattle.served_games.specs.PlaceKeepers.{Follows, found_keeper}
+use Rattle.served_games.specs.PlaceKeepers.{found_keeper}
 use Rattle.served_games.specs.Unasked.{Begins, WithNone, WithOne}
 use Rattle.served_games.proofs.AtOnce.{if_same, one_game_keeps_at_once}
 use Rattle.served_games.proofs.Enduring.{runs_last}

@@ -1,5 +1,5 @@
 -- Stamps of games are bytes, so two of them have different paths.
-use Rattle.std.proofs.Common.{◌≡◌, ◌≢◌, ◌∙◌, ◌<◌, ℕ, zero, suc, Bool, false, true, List, [], ◌∷◌, ◌++◌, codes, drop, length, refl, slice_index, sym, ap, subst, take, arith}
+use Rattle.std.proofs.Common.{◌≡◌, ◌≢◌, ◌∙◌, ◌<◌, ℕ, zero, suc, false, true, List, [], ◌∷◌, ◌++◌, codes, slice_index, sym, ap, subst, take, arith}
 use Rattle.std.specs.Prelude.{Result, Ok}
 use Rattle.std.specs.Int.{to_be_bytes, w32}
 use Rattle.std.specs.List.{AllByRecursion}
@@ -13,7 +13,7 @@ use Rattle.arbiter_server.specs.Games.{IsGameOf}
 use Rattle.arbiter_server.specs.GameFolders.{kept_path}
 use Rattle.board_core.specs.declared.parts.Parts.{Parts}
 use Rattle.fen_text.specs.Written.{fen_of}
-use Rattle.move_msg.specs.Stamps.{stamp_of, stamp_text}
+use Rattle.move_msg.specs.Stamps.{stamp_text}
 
 -- ---- bytes
 
@@ -65,7 +65,6 @@ one_stamp folder a b fits also e =
     let paths = append_cancel_right (folder ++ 47 ∷ encode_lower a) (folder ++ 47 ∷ encode_lower b) ending e in
     let digits = tail_same 47 47 (encode_lower a) (encode_lower b) (append_cancel_left folder (47 ∷ encode_lower a) (47 ∷ encode_lower b) paths) in
     some_same a b (sym (decode_of-encode_lower a fits) ∙ ap decode_of digits ∙ decode_of-encode_lower b also)
-
 
 pub paths_apart : (folder a b : List ℕ) → ((i : ℕ) → slice_index a i < 256) → ((i : ℕ) → slice_index b i < 256) → bytes_eq b a ≡ false → kept_path folder b ≢ kept_path folder a
 paths_apart folder a b fits also apart e =

@@ -4,7 +4,6 @@ use Rattle.std.specs.List.{AllByRecursion, flat_map}
 use Rattle.std.specs.Str.{bytes_eq}
 use Rattle.arbiter_core.specs.Delivers.{Moment}
 use Rattle.arbiter_core.specs.Setups.{SetupView}
-use Rattle.arbiter_server.specs.Acts.{Action}
 use Rattle.arbiter_server.specs.Games.{CommonView, Fresh, GameStatus, IsGameOf, Open, Shut, setup_of}
 use Rattle.arbiter_server.specs.declared.fault.OpenGameError.{OpenGameError}
 use Rattle.arbiter_server.specs.declared.games.GameConfig.{GameConfig}

@@ -1,5 +1,5 @@
 -- What one game told, over all runs of its server, as `listen` has them, and wherever each of them stopped (this project's own).
-use Rattle.std.specs.Prelude.{◌≡◌, ℕ, false, List, [], ◌∷◌, Option, Ok}
+use Rattle.std.specs.Prelude.{ℕ, false, List, [], ◌∷◌, Option, Ok}
 use Rattle.std.specs.List.{AllByRecursion, flat_map}
 use Rattle.arbiter_server.specs.GameFiles.{game_as_told}
 use Rattle.arbiter_server.specs.Games.{CommonView, IsGameOf, setup_of}

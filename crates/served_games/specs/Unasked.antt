@@ -1,5 +1,5 @@
 -- A game that is opened unasked before a run (this project's own).
-use Rattle.std.specs.Prelude.{◌≡◌, ℕ, List, [], ◌∷◌, length, None, Result}
+use Rattle.std.specs.Prelude.{◌≡◌, List, [], ◌∷◌, length, None, Result}
 use Rattle.arbiter_server.specs.declared.fault.OpenGameError.{OpenGameError}
 use Rattle.move_msg.specs.Messages.{message_text}
 use Rattle.move_msg.specs.declared.stamp.Stamp.{Stamp}

@@ -1,21 +1,20 @@
 -- A run of a server of games goes as one of a host.
-use Rattle.std.proofs.Common.{◌≡◌, ◌∙◌, ◌⊎◌, inl, inr, ℕ, ◌<◌, ◌≤◌, Bool, true, false, cond, List, [], ◌∷◌, ◌++◌, Option, Some, None, length, option_map, refl, sym, ap, subst, arith, append-nil}
+use Rattle.std.proofs.Common.{◌≡◌, ◌∙◌, ◌⊎◌, inl, inr, ℕ, ◌<◌, ◌≤◌, Bool, true, false, cond, List, [], ◌∷◌, ◌++◌, Option, Some, None, length, option_map, refl, sym, ap, subst, arith}
 use Rattle.std.specs.Prelude.{Result, Ok, Err}
 use Rattle.std.specs.List.{AllByRecursion, flat_map}
 use Rattle.std.specs.Str.{bytes_eq}
 use Rattle.std.proofs.lemmas.Bool.{cases_lt}
 use Rattle.board_core.specs.Delays.{most_delay}
-use Rattle.judge_core.specs.Tables.{Holding}
 use Rattle.move_msg.specs.Heard.{heard_in}
-use Rattle.move_msg.specs.Messages.{SpellsMessage, message_text}
+use Rattle.move_msg.specs.Messages.{message_text}
 use Rattle.move_msg.proofs.HeardLaws.{heard}
 use Rattle.move_msg.specs.declared.arbiter_id.ArbiterId.{ArbiterId}
 use Rattle.move_msg.specs.declared.message.Message.{Message}
 use Rattle.move_msg.specs.declared.message.Message.TheVariants.{Move, Ack, Verdict, Fetch}
 use Rattle.move_msg.specs.declared.message.MessageFault.{MessageFault}
 use Rattle.move_msg.specs.declared.stamp.Stamp.{Stamp}
-use Rattle.arbiter_core.specs.Answering.{Answer, Refuses as RefusesWith, Sends, answer_heard, answer_to}
-use Rattle.arbiter_core.specs.Delivers.{Delivers, Exchange, Moment, RefusesOrSends, answer_of, in_game, moment}
+use Rattle.arbiter_core.specs.Answering.{Answer, Refuses as RefusesWith, answer_heard, answer_to}
+use Rattle.arbiter_core.specs.Delivers.{Delivers, Exchange, Moment, RefusesOrSends, in_game}
 use Rattle.arbiter_core.specs.Keeping.{KeeperFacts}
 use Rattle.arbiter_core.specs.Opens as opening
 use Rattle.arbiter_core.specs.Setups.{SetupView, rules_at}
@@ -23,23 +22,22 @@ use Rattle.arbiter_core.specs.Views.{View}
 use Rattle.arbiter_core.specs.declared.fault.DeliverFault.{DeliverFault}
 use Rattle.arbiter_core.specs.declared.fault.DeliverFault.TheVariants.{Down, NotAMessage, Stranger}
 use Rattle.arbiter_core.specs.declared.fault.OpenFault.TheVariants as open_fault
-use Rattle.arbiter_server.specs.Acts.{Action, DatagramReply, Opening, Unread, Strange, Refuses, Opens, Answers, Closes, acts_of, all_replies, game_of, is_stamp, stamp_for}
+use Rattle.arbiter_server.specs.Acts.{Action, DatagramReply, Opening, Unread, Strange, Refuses, Opens, Answers, Closes, all_replies, game_of}
 use Rattle.arbiter_server.specs.Folders.{Keepers}
-use Rattle.arbiter_server.specs.Games.{AnswersTo, ClosesTo, CommonView, Fresh, GameStatus, Goes, Open, OpensTo, Shut, life_at}
-use Rattle.arbiter_server.specs.declared.fault.OpenGameError.{OpenGameError}
+use Rattle.arbiter_server.specs.Games.{AnswersTo, ClosesTo, CommonView, Fresh, Goes, Open, OpensTo, Shut, life_at}
 use Rattle.relay_world.specs.Worlds.{Judged}
 use Rattle.timeline.specs.Events.{Event}
 use Rattle.timeline.specs.Outsides.{Outside}
 use Rattle.game_folder.specs.Drafts.{DraftView}
 use Rattle.game_folder.specs.Holdings.{GamesFacts}
-use Rattle.game_server.specs.Rounds.{Heard, HearsAll}
+use Rattle.game_server.specs.Rounds.{Heard}
 use Rattle.game_server.specs.Runs.{with_last}
 use Rattle.game_server.specs.Seats.{common, open_at, seat_moment}
 use Rattle.game_server.specs.Sending.{request}
-use Rattle.game_server.specs.Starting.{OpensUnasked, opener, request_at, request_of}
+use Rattle.game_server.specs.Starting.{opener, request_of}
 use Rattle.game_server.specs.declared.seat.Seat.{Seat}
 use Rattle.game_server.specs.declared.server.Server.{Server}
-use Rattle.served_games.specs.Durable.{AreServedRuns, IsDurableAfter, KeepsAtOnce, LastsBehind, ServedRun, behind, events_of_all, heard_in_run}
+use Rattle.served_games.specs.Durable.{KeepsAtOnce, LastsBehind, ServedRun, behind, events_of_all, heard_in_run}
 use Rattle.served_games.specs.PlaceKeepers.{PlaceKeeper, place_facts, place_keepers}
 use Rattle.served_games.specs.ServedGames.{AreOverLeft, IsAt, OpenedGame, acts_in, all_acts, game_at, heard_in_turns, is_for, reply_for, reply_to}
 use Rattle.served_games.specs.Unasked.{Begins, WithNone, WithOne}
@@ -50,7 +48,7 @@ use Rattle.served_games.proofs.OneGames.{begun_hears}
 use Rattle.served_games.proofs.Running.{all_played, before, games_are_played, stays_all}
 use Rattle.theorems.specs.Interleavings.{IsHostOf, IsRunOfHost}
 use Rattle.theorems.specs.Served.{AreRequests, GoesAsHost, IsHostedRun, IsRequest, IsRunAt, ServedAreHosted, ServedRunsAreHosted, requested_in, unanswered}
-use Rattle.theorems.proofs.Weaving.{is_good, is_up, no_fault}
+use Rattle.theorems.proofs.Weaving.{is_good, is_up}
 
 -- ---- an answer to a request changes nothing
 
@@ -242,7 +240,7 @@ served_are_hosted o facts game who first old new unasked most n form texts to ea
     let p = all_played o facts closes game.stamp first old Fresh unasked hears (closed_at first (open_at first game.stamp) (none game.stamp)) in
     let turns = with_last run.turns run.last in
     let q = before o facts closes game.stamp first old p.life (heard_in_turns turns) (game_at new game.stamp) (stays_all o facts closes game.stamp first old unasked hears)
-        (games_are_played o facts closes most form texts old new turns game.stamp p.life run.in_turn p.at) in
+    (games_are_played o facts closes most form texts old new turns game.stamp p.life run.in_turn p.at) in
     goes_as facts (facts.place first.games) (common first) game who of unasked requests old (heard_in_turns turns)
     (record { first = p.each; mid = p.life; opens = p.plays; at = p.at; each = q.each; life = q.life; plays = q.plays })
 
