@@ -1,26 +1,25 @@
 -- What is noted of games, and committed.
-use Rattle.std.proofs.Common.{◌≡◌, ◌≢◌, ◌∙◌, ◌++◌, ◌==◌, ◌⊎◌, inl, inr, ℕ, Bool, true, false, List, [], ◌∷◌, length, map, Option, Some, None, refl, sym, ap, subst, arith}
+use Rattle.std.proofs.Common.{◌≡◌, ◌≢◌, ◌∙◌, ◌++◌, ◌==◌, inl, inr, ℕ, Bool, true, false, List, [], ◌∷◌, length, map, Option, Some, None, refl, sym, ap, subst, arith}
 use Rattle.std.specs.List.{Contains}
 use Rattle.std.specs.Prelude.{Result, Ok, Err, IfOk, IsOk, IsSome, OnErr, OnOk, Vec}
 use Rattle.std.proofs.lemmas.Bool.{eq-eqb, eqb-true}
 use Rattle.std.proofs.lemmas.List.{nil_from_length}
 use Rattle.std.proofs.lemmas.List.Elements.{Contains-append_left, Contains-push}
-use Rattle.arbiter_server.specs.StoreGames.{bytes_at}
 use Rattle.arbiter_server.specs.declared.fault.OpenGameError.{OpenGameError}
 use Rattle.arbiter_server.specs.declared.fault.OpenGameError.TheVariants as unopened
 use Rattle.arbiter_server.specs.declared.fault.Uncommitted.{Uncommitted}
 use Rattle.arbiter_server.specs.declared.fault.Uncommitted.TheVariants as uncommitted
 use Rattle.std.specs.declared.alloc.Global.{Global}
-use Rattle.system_io.specs.Records.{GivesBack, StoreFacts, StoredRecord, entry_record}
+use Rattle.system_io.specs.Records.{GivesBack, StoreFacts, entry_record}
 use Rattle.system_io.specs.declared.record_store.PutFault.{PutFault}
 use Rattle.system_io.specs.declared.record_store.PutFault.TheVariants.{OutOfMemory}
 use Rattle.system_io.specs.declared.record_store.Entry.{Entry}
-use Rattle.timeline.specs.Events.{Committed, Event, Noted, RecordSought, is_done, stamped}
+use Rattle.timeline.specs.Events.{Committed, Event, RecordSought, stamped}
 use Rattle.timeline.specs.Outsides.{Outside}
-use Rattle.game_folder.specs.Drafts.{DraftView, settled}
-use Rattle.game_folder.specs.Holdings.{CommitsGames, IsKeptIn, IsQuiet, IsTaken, KeepsGame, SendsNothing, StaysNoted, TakesGame, kept_of, known}
-use Rattle.game_folder.specs.Places.{InFile, InStore, WasCommitted, WasKept}
-use Rattle.game_folder.specs.StoreGames.{CommitsNoted, CouldNot, HadNoRoom, HasAll, HadNone, IsEntryFor, IsInStore, HasNoted, LacksMemory, LooksUpRecord, LosesStore, MayCommit, MayGive, Notes, StoredGames, TakesFromStore, WasNoted, WasRefused, WasSought, given_record, kept_records, last_noted, loss_told, store_games_facts, store_lost}
+use Rattle.game_folder.specs.Drafts.{settled}
+use Rattle.game_folder.specs.Holdings.{CommitsGames, IsKeptIn, IsTaken, KeepsGame, SendsNothing, StaysNoted, TakesGame, kept_of, known}
+use Rattle.game_folder.specs.Places.{InFile, InStore, WasKept}
+use Rattle.game_folder.specs.StoreGames.{CommitsNoted, CouldNot, HadNoRoom, HasAll, HadNone, IsInStore, HasNoted, LacksMemory, LooksUpRecord, LosesStore, MayGive, Notes, StoredGames, TakesFromStore, WasNoted, WasRefused, WasSought, bytes_in, given_record, kept_bytes, last_noted, loss_told, store_games_facts}
 use Rattle.game_folder.specs.declared.games.KeptGame.{KeptGame}
 use Rattle.game_folder.specs.declared.store_games.Loss.{Loss}
 use Rattle.game_folder.proofs.NotedLaws.{contains_map, given_value, last_is_noted, noted_first, store_else}
@@ -189,14 +188,14 @@ module _ {T P F K S L : Type 0} (o : Outside T P F K S L) (g : StoredGames S) (s
   looks_up_noted may bytes noted result kept ok = record {
     taken = WasNoted may bytes (sym noted) kept refl;
     ok = ok;
-    gives = given_as (Some bytes) (bytes_at (kept_records o g) stamp) (sym (noted_first (o.store g.store).has g.noted stamp bytes (sym noted))) result kept;
+    gives = given_as (Some bytes) (kept_bytes o g stamp) (sym (noted_first (o.store g.store).has g.noted stamp bytes (sym noted))) result kept;
   }
 
   -- or was looked for in the store
-  pub looks_up_stored : MayGive g stamp → None ≡ last_noted g.noted stamp → (store : S) (key : List ℕ) → store ≡ g.store → key ≡ stamp → (got : Option (List ℕ)) → got ≡ bytes_at (o.store store).has key
+  pub looks_up_stored : MayGive g stamp → None ≡ last_noted g.noted stamp → (store : S) (key : List ℕ) → store ≡ g.store → key ≡ stamp → (got : Option (List ℕ)) → got ≡ bytes_in ((o.store store).has key)
       → (result : Result (KeptGame F) OpenGameError) → kept_of result ≡ given_record got → IfOk result (IsInStore stamp) → LooksUpRecord o g stamp result (RecordSought (o.store_path store) key got ∷ [])
   looks_up_stored may noted store key same of got has result kept ok = record {
     taken = WasSought may (sym noted) got kept (ap (λ (s : S). RecordSought (o.store_path s) key got ∷ []) same ∙ ap (λ (k : List ℕ). RecordSought (o.store_path g.store) k got ∷ []) of);
     ok = ok;
-    gives = given_as got (bytes_at (kept_records o g) stamp) (has ∙ ap (λ (s : S). bytes_at (o.store s).has key) same ∙ ap (bytes_at (o.store g.store).has) of ∙ sym (store_else (o.store g.store).has g.noted stamp (sym noted))) result kept;
+    gives = given_as got (kept_bytes o g stamp) (has ∙ ap (λ (s : S). bytes_in ((o.store s).has key)) same ∙ ap (λ (k : List ℕ). bytes_in ((o.store g.store).has k)) of ∙ sym (store_else (o.store g.store).has g.noted stamp (sym noted))) result kept;
   }

@@ -1,5 +1,5 @@
 -- What places of games know and keep, over one timeline (this project's own).
-use Rattle.std.specs.Prelude.{◌≡◌, ◌⊎◌, ℕ, Bool, List, [], ◌∷◌, Option, Some, None, Result, Ok, Err, IfOk, IsOk, OnErr, OnOk}
+use Rattle.std.specs.Prelude.{◌≡◌, ◌⊎◌, ℕ, Bool, List, [], Option, Some, None, Result, Ok, Err, IfOk, IsOk, OnErr, OnOk}
 use Rattle.std.specs.List.{AllByRecursion}
 use Rattle.std.specs.declared.net.socket_addr.SocketAddr.{SocketAddr}
 use Rattle.arbiter_server.specs.declared.fault.OpenGameError.{OpenGameError}
@@ -7,7 +7,7 @@ use Rattle.arbiter_server.specs.declared.fault.Uncommitted.{Uncommitted}
 use Rattle.arbiter_server.specs.declared.games.GameConfig.{GameConfig}
 use Rattle.timeline.specs.Events.{Event, Sent, is_done}
 use Rattle.timeline.specs.Outsides.{Outside}
-use Rattle.game_folder.specs.Drafts.{DraftView, settled}
+use Rattle.game_folder.specs.Drafts.{settled}
 use Rattle.game_folder.specs.Places.{Held, InFile, InStore, KeptAt, Places, WasKept}
 use Rattle.game_folder.specs.declared.games.KeptGame.{KeptGame}
 

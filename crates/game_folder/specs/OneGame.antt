@@ -1,10 +1,9 @@
 -- One game, whose record is kept in a file (this project's own).
-use Rattle.std.specs.Prelude.{◌≡◌, ◌≢◌, ℕ, Bool, true, false, not, List, [], Result, Ok, Err}
+use Rattle.std.specs.Prelude.{◌≡◌, ◌≢◌, ℕ, Bool, true, not, List, [], Result, Ok, Err}
 use Rattle.arbiter_server.specs.GameFiles.{GameContents, game_as_told}
 use Rattle.arbiter_server.specs.declared.fault.OpenGameError.{OpenGameError}
 use Rattle.arbiter_server.specs.declared.fault.OpenGameError.TheVariants as unopened
 use Rattle.arbiter_server.specs.declared.games.GameConfig.{GameConfig}
-use Rattle.timeline.specs.Events.{Event}
 use Rattle.game_folder.specs.Holdings.{GamesFacts}
 use Rattle.game_folder.specs.Places.{one_file}
 use Rattle.game_folder.specs.RecordFiles.{TakesFromFile, puts_in_file}

@@ -1,14 +1,13 @@
 -- Games whose files are in a folder, and whose records are in one store (this project's own).
-use Rattle.std.specs.Prelude.{◌≡◌, ◌≢◌, ◌⊎◌, ◌++◌, ℕ, Bool, true, false, List, [], ◌∷◌, Option, Some, None, Result, Ok, Err, IfOk, IsSome, OnErr, OnOk, codes, if◌then◌else◌, length, map, nat_lt, option_map}
+use Rattle.std.specs.Prelude.{◌≡◌, ◌≢◌, ◌⊎◌, ◌++◌, ℕ, true, false, List, [], ◌∷◌, Option, Some, None, Result, Ok, Err, IfOk, IsSome, OnErr, OnOk, codes, if◌then◌else◌, length, map, nat_lt, option_map}
 use Rattle.std.specs.List.{Contains}
-use Rattle.arbiter_server.specs.StoreGames.{bytes_at}
 use Rattle.arbiter_server.specs.declared.fault.OpenGameError.{OpenGameError}
 use Rattle.arbiter_server.specs.declared.fault.OpenGameError.TheVariants as unopened
 use Rattle.arbiter_server.specs.declared.fault.Uncommitted.{Uncommitted}
 use Rattle.arbiter_server.specs.declared.fault.Uncommitted.TheVariants as uncommitted
 use Rattle.move_msg.specs.Records.{SpellsRecord}
 use Rattle.move_msg.specs.declared.record_bytes.Record.{Record}
-use Rattle.system_io.specs.Records.{AreSame, IsSettled, Records, records_of, with_all}
+use Rattle.system_io.specs.Records.{AreSame, IsSettled, StoredRecord, records_of, with_all}
 use Rattle.system_io.specs.declared.record_store.Entry.{Entry}
 use Rattle.timeline.specs.Events.{Committed, Event, Noted, RecordSought, is_done, stamped}
 use Rattle.timeline.specs.Outsides.{Outside}
@@ -39,9 +38,12 @@ loss_told OfMemory = uncommitted.NotNoted
 abbrev pub HasNoted : {S : Type 0} → StoredGames S → List ℕ → List ℕ → Type 0
 HasNoted g stamp bytes = IsSome g.loss ⊎ ((e : Entry) × Contains g.noted e × (e.stamp ≡ stamp) × (e.record.items ≡ bytes))
 
+abbrev pub bytes_in : Option StoredRecord → Option (List ℕ)
+bytes_in = option_map (λ r. r.bytes)
+
 -- the bytes that are noted last of the game with this stamp
 abbrev pub last_noted : List Entry → List ℕ → Option (List ℕ)
-last_noted noted stamp = option_map (λ r. r.bytes) (records_of noted stamp)
+last_noted noted stamp = bytes_in (records_of noted stamp)
 
 -- so many moves has the record that the bytes spell; 0 where they spell none
 pub record IsCountOf (bytes : List ℕ) (count : ℕ) : Type 0 where
@@ -86,15 +88,15 @@ pub record IsInStore {F : Type 0} (stamp : List ℕ) (game : KeptGame F) : Type 
   pub clean : game.draft.to_put ≡ None
 
 module _ {T P F K S L : Type 0} (o : Outside T P F K S L) where
-  -- what is kept of each game: what is noted, in place of what the store has
-  abbrev pub kept_records : StoredGames S → Records
-  kept_records g = with_all (o.store g.store).has g.noted
+  -- what is kept of the game with this stamp: what is noted, in place of what the store has
+  abbrev pub kept_bytes : StoredGames S → List ℕ → Option (List ℕ)
+  kept_bytes g stamp = bytes_in (with_all (o.store g.store).has g.noted stamp)
 
   -- the record of a game was looked for among what is noted, and then in the store
   pub record LooksUpRecord (g : StoredGames S) (stamp : List ℕ) (result : Result (KeptGame F) OpenGameError) (events : List Event) : Type 0 where
     pub taken : TakesFromStore (o.store_path g.store) g stamp (kept_of result) events
     pub ok : IfOk result (IsInStore stamp)
-    pub gives : IfOk result (λ game. game.draft.kept ≡ bytes_at (kept_records g) stamp)
+    pub gives : IfOk result (λ game. game.draft.kept ≡ kept_bytes g stamp)
 
 -- ---- how what is noted is committed
 
@@ -124,7 +126,7 @@ LeavesNoted (Err uncommitted.NotNoted) old new = (old.loss ≡ Some OfMemory) ×
 
 -- what the store has after a commit: all that was noted, or just what it had; unless no more can be committed, a start finds that
 pub record Stores {T P F K S L A E : Type 0} (o : Outside T P F K S L) (result : Result A E) (old new : StoredGames S) : Type 0 where
-  pub all : OnOk result (AreSame (o.store new.store).has (kept_records o old))
+  pub all : OnOk result (AreSame (o.store new.store).has (with_all (o.store old.store).has old.noted))
   pub same : OnErr result (AreSame (o.store new.store).has (o.store old.store).has)
   pub settled : new.loss ≡ None → IsSettled (o.store old.store) → IsSettled (o.store new.store)
 

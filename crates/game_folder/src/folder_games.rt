@@ -1,11 +1,10 @@
 //! Games whose files are in a folder, and whose records are in files beside them.
 
-ghost use Rattle.std.specs.Prelude.{◌≡◌, IfErr, IfOk};
-ghost use Rattle.arbiter_server.specs.DiskGames.{LacksGameFile};
+ghost use Rattle.std.specs.Prelude.{IfErr, IfOk, Ok};
 ghost use Rattle.arbiter_server.specs.GameFiles.{game_as_told};
 ghost use Rattle.arbiter_server.specs.GameFolders.{HasGame};
 ghost use Rattle.timeline.specs.Outsides.{AddsSome};
-ghost use Rattle.game_folder.specs.FolderGames.{FindsInFolder, IsToldBy, folder_games_facts};
+ghost use Rattle.game_folder.specs.FolderGames.{FindsInFolder, IsToldBy, LacksFile, folder_games_facts};
 ghost use Rattle.game_folder.specs.Holdings.{FindsGame};
 
 use crate::games::{Games, KeptGame};
@@ -51,7 +50,7 @@ pub(crate) fn find_file<S: System>(
 ) -> Result<GameConfig, OpenGameError>
     ensures made { AddsSome (S.outside system.now) timeline.old timeline.new (FindsInFolder folder.now stamp result) }
     ensures told { IfOk result (λ game. HasGame (S.outside system.now).disk folder.now stamp (game_as_told game.name.items game.start game.delay)) }
-    ensures lacks { IfErr result (LacksGameFile (S.outside system.now).disk folder.now stamp) }
+    ensures lacks { IfErr result (LacksFile (S.outside system.now).disk folder.now stamp) }
 {
     let Ok(path) = game_path(alloc, folder, stamp) else {
         return Err(OpenGameError::OutOfMemory);
@@ -75,7 +74,7 @@ impl<'f, S: System> Games<S> for FolderGames<'f> {
     ) -> Result<GameConfig, OpenGameError>
         ensures made { AddsSome (S.outside system.now) timeline.old timeline.new (FindsGame folder_games_facts self.now stamp result) }
         ensures told { IfOk result (λ game. HasGame (S.outside system.now).disk self.now.folder.now stamp (game_as_told game.name.items game.start game.delay)) }
-        ensures lacks { IfErr result (LacksGameFile (S.outside system.now).disk self.now.folder.now stamp) }
+        ensures lacks { IfErr result (LacksFile (S.outside system.now).disk self.now.folder.now stamp) }
     {
         find_file(alloc, system, timeline, self.folder, stamp)
     }

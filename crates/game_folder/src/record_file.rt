@@ -3,7 +3,6 @@
 ghost use Rattle.std.specs.Prelude.{◌≡◌, ◌≤◌, None, length, IfSome, IsSome};
 ghost use Rattle.system_io.specs.KeptFiles.{bytes_of};
 ghost use Rattle.timeline.specs.Outsides.{AddsSome};
-ghost use Rattle.game_folder.specs.Drafts.{DraftView};
 ghost use Rattle.game_folder.specs.RecordFiles.{PutsFile, StartsFile, TakesFile};
 
 use crate::draft::Draft;

@@ -1,16 +1,14 @@
 //! Games whose files are in a folder, and whose records are in one store.
 
-ghost use Rattle.std.specs.Prelude.{◌≡◌, ◌↔◌, ◌++◌, ◌∷◌, [], List, None, Some, IfErr, IfOk, IfSome, IsTrue, OnOk, option_map};
-ghost use Rattle.std.specs.List.{Contains};
-ghost use Rattle.arbiter_server.specs.DiskGames.{LacksGameFile};
+ghost use Rattle.std.specs.Prelude.{◌≡◌, ◌↔◌, [], None, Some, IfErr, IfOk, IsTrue};
 ghost use Rattle.arbiter_server.specs.GameFiles.{game_as_told};
 ghost use Rattle.arbiter_server.specs.GameFolders.{HasGame};
-ghost use Rattle.arbiter_server.specs.StoreGames.{bytes_at};
 ghost use Rattle.timeline.specs.Events.{bytes_found, done_by};
 ghost use Rattle.timeline.specs.Outsides.{AddsSome};
+ghost use Rattle.game_folder.specs.FolderGames.{LacksFile};
 ghost use Rattle.game_folder.specs.Holdings.{CommitsGames, FindsGame, IsKeptIn, KeepsGame, TakesGame, kept_of};
 ghost use Rattle.game_folder.specs.Places.{InStore};
-ghost use Rattle.game_folder.specs.StoreGames.{CommitsNoted, IsCountOf, IsEntryFor, IsInStore, LeavesNoted, LooksUpRecord, MayGive, Notes, StoredGames, Stores, given_record, kept_records, last_noted, loss_told, store_games_facts};
+ghost use Rattle.game_folder.specs.StoreGames.{CommitsNoted, IsCountOf, IsEntryFor, IsInStore, LeavesNoted, LooksUpRecord, MayGive, Notes, StoredGames, Stores, given_record, kept_bytes, last_noted, loss_told, store_games_facts};
 
 use crate::draft::Draft;
 use crate::folder_games::find_file;
@@ -204,7 +202,7 @@ impl<'f, S: System> Games<S> for StoreGames<'f, S> {
     ) -> Result<GameConfig, OpenGameError>
         ensures made { let o = S.outside system.now in AddsSome o timeline.old timeline.new (FindsGame (store_games_facts o) self.now stamp result) }
         ensures told { IfOk result (λ game. HasGame (S.outside system.now).disk self.now.folder stamp (game_as_told game.name.items game.start game.delay)) }
-        ensures lacks { IfErr result (LacksGameFile (S.outside system.now).disk self.now.folder stamp) }
+        ensures lacks { IfErr result (LacksFile (S.outside system.now).disk self.now.folder stamp) }
     {
         find_file(alloc, system, timeline, self.folder, stamp)
     }
@@ -219,7 +217,7 @@ impl<'f, S: System> Games<S> for StoreGames<'f, S> {
     ) -> Result<KeptGame<S::File>, OpenGameError>
         ensures made { let o = S.outside system.now in AddsSome o timeline.old timeline.new (TakesGame (store_games_facts o) o self.old self.new stamp result) }
         ensures same { self.new ≡ self.old }
-        ensures gives { IfOk result (λ game. game.draft.kept ≡ bytes_at (kept_records (S.outside system.now) self.old) stamp) }
+        ensures gives { IfOk result (λ game. game.draft.kept ≡ kept_bytes (S.outside system.now) self.old stamp) }
     {
         if !self.may_give(stamp) {
             return Err(OpenGameError::Keeper);

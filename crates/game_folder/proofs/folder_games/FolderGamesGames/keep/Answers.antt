@@ -1,4 +1,4 @@
-use Rattle.std.proofs.Common.{◌≡◌, refl}
+use Rattle.std.proofs.Common.{refl}
 use Rattle.arbiter_server.specs.GameFolders.{kept_path}
 use Rattle.game_folder.specs.FolderGames.{folder_games_facts}
 use Rattle.game_folder.proofs.RecordLaws.{has_file, keeps_by_file, path_of_kept}

@@ -1,4 +1,4 @@
-use Rattle.std.proofs.Common.{◌≡◌, ◌∙◌, List, [], ◌∷◌, ap, sym}
+use Rattle.std.proofs.Common.{◌∙◌, List, [], ◌∷◌, ap}
 use Rattle.system_io.specs.declared.record_store.Entry.{Entry}
 use Rattle.timeline.specs.Events.{RecordSought, bytes_found}
 use Rattle.timeline.proofs.EventLaws.{adds_none}

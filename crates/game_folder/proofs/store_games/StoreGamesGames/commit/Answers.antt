@@ -1,4 +1,4 @@
-use Rattle.std.proofs.Common.{◌≡◌, ◌∙◌, [], ◌∷◌, List, Some, Err, inl, map, refl, false, true, ap, sym}
+use Rattle.std.proofs.Common.{◌∙◌, [], ◌∷◌, Some, Err, inl, map, refl, false, true, ap, sym}
 use Rattle.timeline.specs.Events.{Committed, Noted, stamped}
 use Rattle.timeline.proofs.EventLaws.{adds_more, adds_none}
 use Rattle.game_folder.specs.StoreGames.{CouldNot, HadNone, HasAll, LacksMemory, LosesStore, MayCommit, StoredGames, store_lost}
