@@ -36,7 +36,7 @@ use Rattle.served_games.proofs.Asides.{WasTold, aside_one, asides, end_aside, li
 use Rattle.served_games.proofs.Finding.{acts_found, behind_join, durable_first, durable_rest, found_stays, left_acts, over_join}
 use Rattle.served_games.proofs.Going.{Acts, Life, played_are_hosted, plays_join}
 use Rattle.served_games.proofs.Playing.{Next}
-use Rattle.served_games.proofs.Running.{StaysServer, played_one, same_game, stays_all, stays_by, stays_on, stays_one}
+use Rattle.served_games.proofs.Running.{StaysServer, played_one, same_game, stays_all, stays_by, stays_on, stays_one, turns_stay}
 
 -- ---- one game after more events, and after more datagrams
 
@@ -271,15 +271,6 @@ module _ {T P F K S L G : Type 0} (o : Outside T P F K S L) (facts : GamesFacts 
 -- ---- turns, and datagrams behind them
 
 module _ {T P F K S L G : Type 0} (o : Outside T P F K S L) (facts : GamesFacts G) (closes : LostAreClosed o facts) (at_once : KeepsAtOnce facts) (stamp : List ℕ) (before : PlaceKeeper) where
-  deed_stays : (most : ℕ) (old new : Server G F) (deed : Deed) → IsDeed o facts most old deed new → StaysServer o facts old new
-  deed_stays most old new (Answers r) is = stays_on o facts old is.mid new (stays_all o facts closes stamp old is.mid r.heard is.heard) (record { common_is = stays_by o facts is.mid new is.same.config is.same.tables; place = is.commits.still.place })
-  deed_stays most old new HearsNone is = record { common_is = ap common is; place = ap (λ (s : Server G F). facts.place s.games) is }
-
-  turns_stay : (most : ℕ) (form : LineForm) (texts : List (List ℕ)) (old new : Server G F) (turns : List Turn) → InTurns o facts most form texts old turns new → StaysServer o facts old new
-  unfolding InTurns
-  turns_stay most form texts old new [] p = record { common_is = ap common p; place = ap (λ (s : Server G F). facts.place s.games) p }
-  turns_stay most form texts old new (turn ∷ turns) p = stays_on o facts old p.0 new (deed_stays most old p.0 turn.deed p.1.deed) (turns_stay most form (after_lines texts (deed_lines turn.deed)) p.0 new turns p.2)
-
   pub work_found : (most : ℕ) (form : LineForm) (texts : List (List ℕ)) (to : List Recipient) (old mid new : Server G F) (turns : List Turn) (heard : List Heard) (life : Life) (past : List Event) → InTurns o facts most form texts old turns mid → HearsAll o facts mid heard new → AreToldAt facts stamp old → IsAt (game_at old stamp) life
       → IsDurableAfter (facts.places (facts.place old.games) stamp) stamp past (run_events to turns ++ flat_map heard_events heard) → IsFoundIn (facts.places (facts.place old.games) stamp) stamp past before life
       → FoundGame facts (facts.place old.games) (common old) stamp before life (heard_in_turns turns ++ heard) (game_at new stamp) (behind past (run_events to turns ++ flat_map heard_events heard))
@@ -288,7 +279,7 @@ module _ {T P F K S L G : Type 0} (o : Outside T P F K S L) (facts : GamesFacts 
       let all = run_events to turns in
       let rest = flat_map heard_events heard in
       let first = turns_found o facts closes at_once stamp before most form texts to old mid turns life past p told isat (durable_first at stamp past all rest durable) found in
-      let s = turns_stay most form texts old mid turns p in
+      let s = turns_stay o facts closes stamp most form texts old mid turns p in
       let more = all_found o facts closes at_once stamp before mid new first.played.life heard (behind past all) hears (told_turns o facts stamp most form texts old mid turns p told) first.played.at (durable_mid o facts closes at_once stamp before old mid (behind past all) rest s (durable_rest at stamp past all rest durable)) (found_mid o facts closes at_once stamp before old mid (behind past all) first.played.life s first.found) in
       at_past facts (facts.place old.games) (common old) stamp before life (heard_in_turns turns ++ heard) (game_at new stamp) (behind (behind past all) rest) (behind past (all ++ rest)) (behind_join past all rest)
       (on_heard facts (facts.place old.games) (common old) stamp before life (heard_in_turns turns) heard (game_at mid stamp) (game_at new stamp) (behind past all) (behind (behind past all) rest) first

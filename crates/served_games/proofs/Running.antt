@@ -157,5 +157,14 @@ module _ {T P F K S L G : Type 0} (o : Outside T P F K S L) (facts : GamesFacts 
         more old p.0 new life (heard_by turn.deed) (heard_in_turns turns) d.played
         (before old p.0 d.played.life (heard_in_turns turns) (game_at new stamp) d.stays (turns_played most form (after_lines texts (deed_lines turn.deed)) p.0 new turns d.played.life p.2 d.played.at))
 
+    deed_stays : (most : ℕ) (old new : Server G F) (deed : Deed) → IsDeed o facts most old deed new → StaysServer old new
+    deed_stays most old new (Answers r) is = stays_on old is.mid new (stays_all old is.mid r.heard is.heard) (record { common_is = stays_by is.mid new is.same.config is.same.tables; place = is.commits.still.place })
+    deed_stays most old new HearsNone is = record { common_is = ap common is; place = ap (λ (s : Server G F). facts.place s.games) is }
+
+    pub turns_stay : (most : ℕ) (form : LineForm) (texts : List (List ℕ)) (old new : Server G F) (turns : List Turn) → InTurns o facts most form texts old turns new → StaysServer old new
+    unfolding InTurns
+    turns_stay most form texts old new [] p = record { common_is = ap common p; place = ap (λ (s : Server G F). facts.place s.games) p }
+    turns_stay most form texts old new (turn ∷ turns) p = stays_on old p.0 new (deed_stays most old p.0 turn.deed p.1.deed) (turns_stay most form (after_lines texts (deed_lines turn.deed)) p.0 new turns p.2)
+
   pub games_are_played : LostAreClosed o facts → GamesArePlayed o facts
   games_are_played closes most form texts old new turns stamp was p at = turns_played closes stamp most form texts old new turns was p at

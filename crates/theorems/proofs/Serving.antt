@@ -42,12 +42,12 @@ use Rattle.served_games.specs.PlaceKeepers.{PlaceKeeper, place_facts, place_keep
 use Rattle.served_games.specs.ServedGames.{AreOverLeft, IsAt, OpenedGame, acts_in, all_acts, game_at, heard_in_turns, is_for, reply_for, reply_to}
 use Rattle.served_games.specs.Unasked.{Begins, WithNone, WithOne}
 use Rattle.served_games.proofs.Enduring.{closed_at, runs_last}
-use Rattle.served_games.proofs.Going.{Acts, Life, alone, goes_join, opening_on, over_first, over_rest, own_join, playing_on}
+use Rattle.served_games.proofs.Going.{Acts, Life, alone, goes_join, opening_on, over_first, over_rest, own_join, playing_on, plays_join}
 use Rattle.served_games.proofs.Lost.{lost_are_closed}
 use Rattle.served_games.proofs.OneGames.{begun_hears}
-use Rattle.served_games.proofs.Running.{all_played, before, games_are_played, stays_all}
+use Rattle.served_games.proofs.Running.{all_played, before, games_are_played, stays_all, stays_on, turns_stay}
 use Rattle.theorems.specs.Interleavings.{IsHostOf, IsRunOfHost}
-use Rattle.theorems.specs.Served.{AreRequests, GoesAsHost, IsHostedRun, IsRequest, IsRunAt, ServedAreHosted, ServedRunsAreHosted, requested_in, unanswered}
+use Rattle.theorems.specs.Served.{AreRequests, GoesAsHost, IsHostedRun, IsRequest, IsRunAt, ServedAreHosted, ServedFrontsAreHosted, ServedRunsAreHosted, requested_in, unanswered}
 use Rattle.theorems.proofs.Weaving.{is_good, is_up}
 
 -- ---- an answer to a request changes nothing
@@ -243,6 +243,21 @@ served_are_hosted o facts game who first old new unasked most n form texts to ea
     (games_are_played o facts closes most form texts old new turns game.stamp p.life run.in_turn p.at) in
     goes_as facts (facts.place first.games) (common first) game who of unasked requests old (heard_in_turns turns)
     (record { first = p.each; mid = p.life; opens = p.plays; at = p.at; each = q.each; life = q.life; plays = q.plays })
+
+pub fronts_are_hosted : {T P F K S L G : Type 0} (o : Outside T P F K S L) (facts : GamesFacts G) → ServedFrontsAreHosted o facts
+fronts_are_hosted o facts game who first old mid new unasked late turns most form texts none of begins in_turns hears_late =
+    let hears = begun_hears o facts first old unasked begins in
+    let requests = begun_requests o facts first old unasked begins in
+    let closes = lost_are_closed o facts in
+    let place = facts.place first.games in
+    let t = common first in
+    let p = all_played o facts closes game.stamp first old Fresh unasked hears (closed_at first (open_at first game.stamp) (none game.stamp)) in
+    let s = stays_all o facts closes game.stamp first old unasked hears in
+    let q = before o facts closes game.stamp first old p.life (heard_in_turns turns) (game_at mid game.stamp) s (games_are_played o facts closes most form texts old mid turns game.stamp p.life in_turns p.at) in
+    let r = before o facts closes game.stamp first mid q.life late (game_at new game.stamp) (stays_on o facts first old mid s (turns_stay o facts closes game.stamp most form texts old mid turns in_turns))
+    (all_played o facts closes game.stamp mid new q.life late hears_late q.at) in
+    goes_as facts place t game who of unasked requests old (heard_in_turns turns ++ late)
+    (record { first = p.each; mid = p.life; opens = p.plays; at = p.at; each = q.each ++ r.each; life = r.life; plays = plays_join facts place t game.stamp p.life q.life r.life (heard_in_turns turns) late q.each r.each q.plays r.plays })
 
 each_hosted : {T P F K S L G : Type 0} (o : Outside T P F K S L) (facts : GamesFacts G) (place : facts.Place) (game : Judged) (who : ArbiterId) (setup : SetupView) (past : List Event) (runs : List (ServedRun G F))
     → AllByRecursion (IsRunAt game who) runs → AllByRecursion (LastsBehind o facts place game.stamp setup past) runs

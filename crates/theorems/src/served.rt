@@ -3,14 +3,15 @@
 ghost use Rattle.arbiter_server.specs.Folders.{keepers};
 ghost use Rattle.game_folder.specs.FolderGames.{folder_games_facts};
 ghost use Rattle.game_folder.specs.OneGame.{one_game_facts};
-ghost use Rattle.theorems.specs.Served.{ServedAreHosted, ServedAreWorlds, ServedBesideHost, ServedRunsAreHosted};
+ghost use Rattle.theorems.specs.Served.{ServedAreHosted, ServedAreWorlds, ServedBesideHost, ServedFrontsAreHosted, ServedRunsAreHosted};
 
 use timeline::System;
 
 /// What a run of a server does of a game is what a run of a host does, where each opening is over what was left: so of a server that begins
-/// with no game open, and of one that has opened a game unasked, whether or not it requests moves then.
+/// with no game open, and of one that has opened a game unasked, whether or not it requests moves then. A run that was stopped is such a one too.
 pub fn served_are_hosted<S: System, G: game_folder::Games<S>>(_system: &S)
-    ensures { ServedAreHosted (S.outside _system.now) (G.facts _system.now) }
+    ensures run { ServedAreHosted (S.outside _system.now) (G.facts _system.now) }
+    ensures front { ServedFrontsAreHosted (S.outside _system.now) (G.facts _system.now) }
 {}
 
 /// Over files, where these are durable, each opening is over what was left: so each run of a server, wherever it stopped, is one of a host. This
