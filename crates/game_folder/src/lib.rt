@@ -24,9 +24,9 @@
 //!   start found in its file, and what it puts is put there. No commit succeeds after a put that failed, and each does before.
 //! - CLAIM: `StoreGames`, clauses `facts`, `told`, `lacks`, `same`, `gives`, `noted`, `why`, `left`, `stored`: a record is what was noted last of
 //!   this game since the last commit, or else what the store has, and none of a game that is left. What a game puts is noted behind all
-//!   else. A commit is of all that is noted, in that order, and of nothing else; at `Ok` the store has it. Where memory was refused for it
-//!   all stays noted; where the store failed, or memory was refused to note something, no commit succeeds from then on, and the error is
-//!   which of the two it was.
+//!   else. A commit is of all that is noted, in that order, and of nothing else; at `Ok` the store has it. Where it is told that
+//!   memory was refused for it all stays noted; after any other error no commit succeeds from then on. (That a lost store isn't told where
+//!   memory alone was refused is no clause.)
 #![tactic(auto)]
 
 mod draft;

@@ -1,35 +1,37 @@
-//! A server of games: it answers the datagrams that come to a port, each by the arbiter of its game. `listen` and `host` are such servers,
-//! of one game and of many. What happens outside is one list of events over one timeline, with its order.
+//! A server of games: it answers the datagrams that come to a port, each by the arbiter of its game. `listen` and `host` are to be such
+//! servers, of one game and of many; no program uses it yet. What happens outside is one list of events over one timeline, with its order.
 //!
 //! A message names its game by a stamp. The server looks up a game that isn't open among its places (`Games` of `game_folder`): its name, its
 //! start, its delay and its record. Where no room is left, the one used least recently is closed. All judge by one set of tables, lent to
 //! the one that answers. Datagrams that wait are answered in rounds: `hear` answers each, and what its game keeps is put in a file, or noted
 //! for the store; then what was noted is committed; only then the replies go out, each to who asked, and then the lines.
 //!
-//! Nothing uses this crate yet: it is to take the place of both servers of `arbiter_server`.
-//!
 //! Inside: `seat` (a game that is open), `server`, `room`, `lookup`, `seating` (a game is opened, and answers), `hearing` (a datagram),
 //! `replies`, `gathering` (the datagrams of a round), `sending`, `lines` (which are written), `printing`, `running`, `starting` (a game that
 //! is opened unasked); `laws`.
 //!
-//! Definitions, in reading order: `Seats`, `Fates` (`OpensFor`, `GoesTo`), `Replies`, `Datagrams` (`HearsDatagram`), `Sending`, `Printing`
-//! (`written_text`, `WritesLines`), `Rounds` (`round_events`, `IsRound`), `Runs` (`InTurns`, `Serves`), `Starting`, `Orders` (`IsBacked`, `AcksAreEarned`);
+//! Definitions, in reading order: `Seats`, `Fates` (`OpensFor`, `GoesTo`), `Backed` (`IsBacked`), `Replies`, `Datagrams` (`HearsDatagram`),
+//! `Sending`, `Printing`
+//! (`written_text`, `WritesLines`), `Rounds` (`round_events`, `IsRound`), `Runs` (`InTurns`, `Serves`), `Starting`, `Orders` (`AcksAreEarned`);
 //! for private clauses `Seating`, `Running`.
 //!
 //! - CLAIM: `serve`, clause `run`: all that happens outside are turns. In each, datagrams come, and each is answered by one delivery of the
 //!   arbiter of the game that it names, which is opened where it isn't open, or by a refusal alone; then what was noted is committed; then
 //!   each message of each reply goes to each recipient, once and in order, and where that is the sender to whom its datagram came from;
 //!   then a line for each datagram goes out, as the log has it. Where the commit fails nothing is sent. Nothing is received behind a lost
-//!   line. The status is 0 only where all datagrams came, and 1 only where the port is lost or no more can be committed.
-//! - CLAIM: `serve`, clause `earned`; `laws::acks_are_earned`: each acknowledgement of so many moves comes after a record of this game with
-//!   at least so many was put or committed where its record is kept, or found there; each verdict comes after a record with it.
+//!   line. The status is 0 only where all datagrams came, and 1 only where the port is lost or a commit failed.
+//! - CLAIM: `serve`, clause `earned`; `laws::acks_are_earned`: where what open games keep is known, each acknowledgement of so many moves comes
+//!   after a record of this game with at least so many was put or committed where its record is kept, or found there; each verdict comes after a record with it.
 //! - CLAIM: `hear`, clause `made`: nothing is sent. The datagram has one of the fates of `GoesTo`, and the reply is of that. A record that
 //!   can't be kept is not announced, and its game alone is refused; another game is as it was, or closed.
 //! - CLAIM: `hear`, clause `made`: what the messages of the reply say (`backed`) of a record was put, committed or found where that game's
 //!   record is kept, or is noted for the next commit.
-//! - CLAIM: `open_game`, clause `made`: a game is opened as for a request for its moves, and nothing is sent. `ask`, clause `made`: the
-//!   request for moves of an open game goes to each recipient.
+//! - CLAIM: `open_game`, clause `made`: a game is opened as for a request for its moves, or the reply says why not, and nothing is sent.
+//!   `ask`, clause `made`: the request for moves of an open game goes to each recipient.
 //! - CLAIM: `PortServer::open`: no game is open yet (the error has no cause).
+//!
+//! Not said: how many games are open, which one is closed, and when; which error a commit gave; whether a datagram is awaited or had come, and
+//! that a round takes all that had; why memory was refused.
 #![tactic(auto)]
 
 mod gathering;

@@ -49,13 +49,13 @@ pub fn one_game_keeps_at_once()
 {}
 
 /// Of the games of a folder, where their files are durable, each opening of a game in a run is over what it left, and whatever a start may find
-/// behind any runs is a record in which all is that each answer told.
-pub fn folder_games_last<S: System>(_system: &S)
-    ensures found { GamesAreFound (S.outside _system.now) folder_games_facts }
-    ensures last { RunsLast (S.outside _system.now) folder_games_facts }
+/// behind the run is what the game keeps or left.
+pub fn folder_games_are_found<S: System>(_system: &S)
+    ensures { GamesAreFound (S.outside _system.now) folder_games_facts }
 {}
 
-/// So it is of one game, where its file is durable.
+/// So it is of one game, where its file is durable; and whatever a start may find behind any runs is a record in which all is that each answer
+/// told.
 pub fn one_game_lasts<S: System>(_system: &S)
     ensures found { GamesAreFound (S.outside _system.now) one_game_facts }
     ensures last { RunsLast (S.outside _system.now) one_game_facts }

@@ -21,12 +21,16 @@
 //! - CLAIM: `laws::games_are_found`: where records are put at once and are durable, each opening is over what was left, and whatever a start may
 //!   find behind a run is what the game keeps or left.
 //! - CLAIM: `laws::folder_games_keep_at_once`, `one_game_keeps_at_once`: the games of a folder, and one game, put each record in its file at once;
-//!   so what is said of such records holds of both (`folder_games_last`, `one_game_lasts`).
-//! - CLAIM: `laws::what_was_told_lasts`; `laws::runs_last`: after any runs, wherever each of them stopped, whatever a start finds of a game is a
-//!   record in which all is that each answer told: as many moves as were acknowledged, the same ones, and the verdict at its ply. The first
-//!   says so of acts, over records in files and in stores; the second of events, where records are put at once.
+//!   so each opening in a run is over what was left (`folder_games_are_found`; `one_game_lasts`, clause `found`).
+//! - CLAIM: `laws::what_was_told_lasts`; `laws::runs_last`: after runs of one setup, wherever each of them stopped, whatever a start finds of a
+//!   game is a record in which all is that each answer told: as many moves as were acknowledged, the same ones, and the verdict at its ply.
+//!   The first says so of acts, over records in files and in stores; the second of events, where records are put at once, of places that find
+//!   one game under a stamp (`one` of `IsServedRun`): so of `OneGame`, and not of a folder, which may find any game that a text spells.
 //! - CLAIM: `laws::one_game_keeps_what_it_told`: what one game told stays, over all runs of new servers of it, each of which opens it unasked,
 //!   and wherever each of them stopped, where the file of its record is durable.
+//!
+//! Not said: of events in a store, that what was told lasts (no clause ties what is taken to what was noted last); that a file as `System` has
+//! it is durable (`IsDurable` is a premise, on which links of docs/PROVED.md on files bear).
 #![tactic(auto)]
 
 pub mod laws;

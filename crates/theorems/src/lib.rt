@@ -34,7 +34,7 @@
 //!   `listen_beside_a_host`: so two of them, and one on either side of a host, come to a world.
 //! - CLAIM: `served_are_hosted`: what a run of a server of games (`game_server`) does of a game is what a run of a host does, where each opening is
 //!   over what was left; so of one that has opened the game unasked, and may have asked for moves, but for the answer by which it was
-//!   opened, which nobody gets. `served_files_are_hosted`: over files that are durable each opening is so, wherever the run stopped.
+//!   opened, which nobody gets. `served_game_is_hosted`: over the file of one game, where it is durable, each opening is so, wherever the run stopped.
 //!   `served_are_worlds`; `served_beside_a_host`: so two of them, and one on either side of a host, come to a world.
 //! - CLAIM: `host_keeps_what_it_told`: what a host told of a game is found at each later start over the file of its record: as many
 //!   moves as it acknowledged, the same ones, and a verdict at its ply. This holds over any files, after any runs, wherever each
@@ -78,7 +78,7 @@ pub use listens::{listen_beside_a_host, listens_are_hosted, listens_are_worlds};
 pub use recording::{MadeAt, Recorded, Recording};
 pub use seals::no_tag_no_forgery;
 pub use served::{
-    served_are_hosted, served_are_worlds, served_beside_a_host, served_files_are_hosted,
+    served_are_hosted, served_are_worlds, served_beside_a_host, served_game_is_hosted,
 };
 pub use sources::{sends_the_log, sources_tell_the_truth};
 pub use store_hosts::{

@@ -1,7 +1,6 @@
 //! Runs of a server of games over one timeline, as those of hosts.
 
 ghost use Rattle.arbiter_server.specs.Folders.{keepers};
-ghost use Rattle.game_folder.specs.FolderGames.{folder_games_facts};
 ghost use Rattle.game_folder.specs.OneGame.{one_game_facts};
 ghost use Rattle.theorems.specs.Served.{ServedAreHosted, ServedAreWorlds, ServedBesideHost, ServedFrontsAreHosted, ServedRunsAreHosted};
 
@@ -14,11 +13,10 @@ pub fn served_are_hosted<S: System, G: game_folder::Games<S>>(_system: &S)
     ensures front { ServedFrontsAreHosted (S.outside _system.now) (G.facts _system.now) }
 {}
 
-/// Over files, where these are durable, each opening is over what was left: so each run of a server, wherever it stopped, is one of a host. This
-/// holds of the games of a folder and of one game.
-pub fn served_files_are_hosted<S: System>(_system: &S)
-    ensures folder { ServedRunsAreHosted (S.outside _system.now) folder_games_facts }
-    ensures one { ServedRunsAreHosted (S.outside _system.now) one_game_facts }
+/// Over the file of one game, where it is durable, each opening is over what was left: so each run of its server, wherever it stopped, is one of
+/// a host.
+pub fn served_game_is_hosted<S: System>(_system: &S)
+    ensures { ServedRunsAreHosted (S.outside _system.now) one_game_facts }
 {}
 
 /// Two servers of one game, each over places of its own, come to what a schedule comes to, in whichever order their acts come and however often
