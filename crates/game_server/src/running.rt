@@ -113,12 +113,12 @@ fn round<'a, S: System, G: Games<S> + Drop>(
     port: &mut S::Port,
     most: usize,
 ) -> Result<AfterRound, WriteFault>
-    requires seats { AreSeats (S.outside system.now) G.facts at.old.server }
+    requires seats { AreSeats (S.outside system.now) (G.facts system.now) at.old.server }
     requires some { 0 < most }
     requires few { most ≤ at.old.replies.most }
-    ensures seats { AreSeats (S.outside system.now) G.facts at.new.server }
+    ensures seats { AreSeats (S.outside system.now) (G.facts system.now) at.new.server }
     ensures same { SendsToSame ((S.outside system.now).port port.old) ((S.outside system.now).port port.new) }
-    ensures made { (before : List (List ℕ)) → KnowsLines at.old.lines before → TakesTurn (S.outside system.now) G.facts before most at.old at.new port.old timeline.old timeline.new result }
+    ensures made { (before : List (List ℕ)) → KnowsLines at.old.lines before → TakesTurn (S.outside system.now) (G.facts system.now) before most at.old at.new port.old timeline.old timeline.new result }
     ensures most { at.new.replies.most ≡ at.old.replies.most }
     ensures cause { OnErr result (OutputFails (S.outside system.now)) }
 {
@@ -161,11 +161,11 @@ pub fn serve<'a, S: System, G: Games<S> + Drop>(
     port: &mut S::Port,
     n: u64,
 ) -> Result<u8, WriteFault>
-    requires seats { AreSeats (S.outside system.now) G.facts at.old.server }
+    requires seats { AreSeats (S.outside system.now) (G.facts system.now) at.old.server }
     requires none { KnowsLines at.old.lines [] }
-    ensures run { Serves (S.outside system.now) G.facts at.old.replies.most (form_in at.old.lines) [] n ((S.outside system.now).port port.old).to at.old.server at.new.server timeline.old timeline.new result }
-    ensures earned { EarnsFrom (S.outside system.now) G.facts at.old.server at.new.server timeline.old timeline.new }
-    ensures seats { AreSeats (S.outside system.now) G.facts at.new.server }
+    ensures run { Serves (S.outside system.now) (G.facts system.now) at.old.replies.most (form_in at.old.lines) [] n ((S.outside system.now).port port.old).to at.old.server at.new.server timeline.old timeline.new result }
+    ensures earned { EarnsFrom (S.outside system.now) (G.facts system.now) at.old.server at.new.server timeline.old timeline.new }
+    ensures seats { AreSeats (S.outside system.now) (G.facts system.now) at.new.server }
     ensures cause { OnErr result (OutputFails (S.outside system.now)) }
 {
     let mut left = n;

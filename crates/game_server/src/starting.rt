@@ -48,8 +48,8 @@ pub fn open_game<'a, S: System, G: Games<S> + Drop>(
     timeline: &mut S::Timeline,
     stamp: Stamp,
 ) -> Result<(), OpenGameError>
-    requires { AreSeats (S.outside system.now) G.facts at.old.server }
-    ensures made { AddsSome (S.outside system.now) timeline.old timeline.new (OpensUnasked (S.outside system.now) G.facts at.old.server at.new.server stamp result) }
+    requires { AreSeats (S.outside system.now) (G.facts system.now) at.old.server }
+    ensures made { AddsSome (S.outside system.now) timeline.old timeline.new (OpensUnasked (S.outside system.now) (G.facts system.now) at.old.server at.new.server stamp result) }
     ensures replies { at.new.replies ≡ at.old.replies }
     ensures lines { at.new.lines ≡ at.old.lines }
 {

@@ -12,7 +12,7 @@ loop-buffer-init g c =
     let none : c.clear.new.self.held ≡ [] = ap (λ (v : RepliesView). v.held) c.clear.ensures in
     let zero : length c.clear.new.self.held ≡ 0 = ap length none in
     record {
-      has = none_heard (g.S.System.outside c.args.system.now) g.G.Games.facts c.args.server.now c.clear.new.self.held c.args.timeline.now none;
+      has = none_heard (g.S.System.outside c.args.system.now) (g.G.Games.facts c.args.system.now) c.args.server.now c.clear.new.self.held c.args.timeline.now none;
       seats = c.requires.seats;
       same = sends_to_same _;
       few = omega (arith, zero);
@@ -29,7 +29,7 @@ loop-buffer-preserved g c =
     let test = c.loop-buffer-test.true in
     let len = c.len.ensures in
     record {
-      has = one_heard o g.G.Games.facts c.args.server.now c.loop-buffer.server c.hear_one.new.server c.args.timeline.now c.loop-buffer.timeline c.receive_next.new.timeline c.hear_one.new.timeline _ c.sender-sender.result _ c.loop-buffer.replies c.hear_one.new.replies inv.has
+      has = one_heard o (g.G.Games.facts c.args.system.now) c.args.server.now c.loop-buffer.server c.hear_one.new.server c.args.timeline.now c.loop-buffer.timeline c.receive_next.new.timeline c.hear_one.new.timeline _ c.sender-sender.result _ c.loop-buffer.replies c.hear_one.new.replies inv.has
           (rw c.in-Ok-Some.field-0-is at c.in-Ok-Some.ensures.made) (sym c.sender-sender.ensures) one;
       seats = one.2.hears.seats;
       same = same_then _ _ _ inv.same c.receive_next.ensures.same;
@@ -53,7 +53,7 @@ returns-in-Ok-None-clause-gathers g c =
     let len = c.len.ensures in
     let waits = c.in-Ok-None.ensures.awaited (ap Ok c.in-Ok-None.field-0-is) in
     record {
-      made = gathered o g.G.Games.facts c.args.most c.args.server.now c.loop-buffer.server c.loop-buffer.replies.held c.args.timeline.now c.loop-buffer.timeline c.receive_next.new.timeline inv.has NoMore
+      made = gathered o (g.G.Games.facts c.args.system.now) c.args.most c.args.server.now c.loop-buffer.server c.loop-buffer.replies.held c.args.timeline.now c.loop-buffer.timeline c.receive_next.new.timeline inv.has NoMore
           (rw c.in-Ok-None.field-0-is at c.in-Ok-None.ensures.made) (some_held (length c.loop-buffer.replies.held) (sym c.is_empty.ensures ∙ waits)) inv.few
           (λ whole. absurd (let w : length c.loop-buffer.replies.held ≡ c.args.most = whole in omega (arith, w, len, test)));
       same = same_then _ _ _ inv.same c.receive_next.ensures.same;
@@ -67,7 +67,7 @@ returns-in-Err-clause-gathers g c =
     let test = c.loop-buffer-test.true in
     let len = c.len.ensures in
     record {
-      made = failed o g.G.Games.facts c.args.most c.args.server.now c.loop-buffer.server c.loop-buffer.replies.held c.args.timeline.now c.loop-buffer.timeline c.receive_next.new.timeline inv.has c.is_empty-in-Err.result c.is_empty-in-Err.ensures
+      made = failed o (g.G.Games.facts c.args.system.now) c.args.most c.args.server.now c.loop-buffer.server c.loop-buffer.replies.held c.args.timeline.now c.loop-buffer.timeline c.receive_next.new.timeline inv.has c.is_empty-in-Err.result c.is_empty-in-Err.ensures
           c.in-Err.ensures.made (omega (arith, len, test));
       same = same_then _ _ _ inv.same c.receive_next.ensures.same;
       most_is = inv.most;
@@ -81,7 +81,7 @@ returns-clause-gathers g c =
     let len = c.len.ensures in
     let some = c.requires.some in
     record {
-      made = gathered o g.G.Games.facts c.args.most c.args.server.now c.loop-buffer.server c.loop-buffer.replies.held c.args.timeline.now c.loop-buffer.timeline c.loop-buffer.timeline inv.has IsFull
+      made = gathered o (g.G.Games.facts c.args.system.now) c.args.most c.args.server.now c.loop-buffer.server c.loop-buffer.replies.held c.args.timeline.now c.loop-buffer.timeline c.loop-buffer.timeline inv.has IsFull
           (adds_none o c.loop-buffer.timeline) (omega (arith, len, test, some)) inv.few (λ whole. refl);
       same = inv.same;
       most_is = inv.most;

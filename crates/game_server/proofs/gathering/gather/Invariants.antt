@@ -6,8 +6,8 @@ use Rattle.game_server.proofs.gathering.gather.Given as goal
 
 abbrev pub invariant-loop-buffer : goal.invariant-loop-buffer
 invariant-loop-buffer g l = record {
-  has : HasHeard (g.S.System.outside l.system) g.G.Games.facts l.fn.server l.server l.replies.held l.fn.timeline l.timeline;
-  seats : AreSeats (g.S.System.outside l.system) g.G.Games.facts l.server;
+  has : HasHeard (g.S.System.outside l.system) (g.G.Games.facts l.system) l.fn.server l.server l.replies.held l.fn.timeline l.timeline;
+  seats : AreSeats (g.S.System.outside l.system) (g.G.Games.facts l.system) l.server;
   same : SendsToSame ((g.S.System.outside l.system).port l.fn.port) ((g.S.System.outside l.system).port l.port);
   few : length l.replies.held ≤ l.most;
   most : l.replies.most ≡ l.fn.replies.most;

@@ -10,7 +10,7 @@ pub loop-left-init : goal.loop-left-init
 loop-left-init g c = record {
   count = 0;
   of = omega arith;
-  served = none_served (g.S.System.outside c.args.system.now) g.G.Games.facts c.args.at.now.replies.most (form_in c.args.at.now.lines) _ c.args.at.now.server c.args.at.now.lines c.args.timeline.now c.requires.none refl;
+  served = none_served (g.S.System.outside c.args.system.now) (g.G.Games.facts c.args.system.now) c.args.at.now.replies.most (form_in c.args.at.now.lines) _ c.args.at.now.server c.args.at.now.lines c.args.timeline.now c.requires.none refl;
   most = refl;
   same = sends_to_same _;
   seats = c.requires.seats;
@@ -21,7 +21,7 @@ loop-left-preserved g c =
     let inv = c.loop-left.invariant in
     let is = c.min-most.ensures in
     let of = inv.of in
-    let one = one_served (g.S.System.outside c.args.system.now) g.G.Games.facts c.args.at.now.replies.most (form_in c.args.at.now.lines) c.args.at.now c.loop-left.at c.round.new.at c.args.port.now c.loop-left.port c.args.timeline.now c.loop-left.timeline c.round.new.timeline inv.count c.min-most.result
+    let one = one_served (g.S.System.outside c.args.system.now) (g.G.Games.facts c.args.system.now) c.args.at.now.replies.most (form_in c.args.at.now.lines) c.args.at.now c.loop-left.at c.round.new.at c.args.port.now c.loop-left.port c.args.timeline.now c.loop-left.timeline c.round.new.timeline inv.count c.min-most.result
     inv.same.to inv.most inv.served c.round.result c.in-Ok-GoesOn.came (c.in-Ok-GoesOn.is ∙ ap Ok c.in-Ok-GoesOn.field-0-is) c.round.ensures.made in
     let few = one.1 in
     record {
@@ -38,12 +38,12 @@ returns-in-Ok-Stops-clause-run g c =
     let inv = c.loop-left.invariant in
     let of = inv.of in
     let test = c.loop-left-test.true in
-    served_stops (g.S.System.outside c.args.system.now) g.G.Games.facts c.args.at.now.replies.most (form_in c.args.at.now.lines) c.args.at.now c.loop-left.at c.round.new.at c.args.port.now c.loop-left.port c.args.timeline.now c.loop-left.timeline c.round.new.timeline inv.count c.min-most.result
+    served_stops (g.S.System.outside c.args.system.now) (g.G.Games.facts c.args.system.now) c.args.at.now.replies.most (form_in c.args.at.now.lines) c.args.at.now c.loop-left.at c.round.new.at c.args.port.now c.loop-left.port c.args.timeline.now c.loop-left.timeline c.round.new.timeline inv.count c.min-most.result
     inv.same.to inv.most inv.served c.round.result c.args.n (omega (arith, of, test)) (c.in-Ok-Stops.is ∙ ap Ok c.in-Ok-Stops.field-0-is) c.round.ensures.made
 
 pub returns-in-Ok-Stops-clause-earned : goal.returns-in-Ok-Stops-clause-earned
 returns-in-Ok-Stops-clause-earned g c =
-    run_earned (g.S.System.outside c.args.system.now) g.G.Games.facts ((g.S.System.outside c.args.system.now).port c.args.port.now).to c.args.at.now.replies.most (form_in c.args.at.now.lines) [] c.args.n c.args.at.now.server c.round.new.at.server c.args.timeline.now c.round.new.timeline (Ok 1)
+    run_earned (g.S.System.outside c.args.system.now) (g.G.Games.facts c.args.system.now) ((g.S.System.outside c.args.system.now).port c.args.port.now).to c.args.at.now.replies.most (form_in c.args.at.now.lines) [] c.args.n c.args.at.now.server c.round.new.at.server c.args.timeline.now c.round.new.timeline (Ok 1)
     (returns-in-Ok-Stops-clause-run g c)
 
 pub returns-in-Err-clause-run : goal.returns-in-Err-clause-run
@@ -51,12 +51,12 @@ returns-in-Err-clause-run g c =
     let inv = c.loop-left.invariant in
     let of = inv.of in
     let test = c.loop-left-test.true in
-    served_cut (g.S.System.outside c.args.system.now) g.G.Games.facts c.args.at.now.replies.most (form_in c.args.at.now.lines) c.args.at.now c.loop-left.at c.round.new.at c.args.port.now c.loop-left.port c.args.timeline.now c.loop-left.timeline c.round.new.timeline inv.count c.min-most.result
+    served_cut (g.S.System.outside c.args.system.now) (g.G.Games.facts c.args.system.now) c.args.at.now.replies.most (form_in c.args.at.now.lines) c.args.at.now c.loop-left.at c.round.new.at c.args.port.now c.loop-left.port c.args.timeline.now c.loop-left.timeline c.round.new.timeline inv.count c.min-most.result
     inv.same.to inv.most inv.served c.round.result c.args.n c.in-Err.fault (omega (arith, of, test)) c.in-Err.is c.round.ensures.made
 
 pub returns-in-Err-clause-earned : goal.returns-in-Err-clause-earned
 returns-in-Err-clause-earned g c =
-    run_earned (g.S.System.outside c.args.system.now) g.G.Games.facts ((g.S.System.outside c.args.system.now).port c.args.port.now).to c.args.at.now.replies.most (form_in c.args.at.now.lines) [] c.args.n c.args.at.now.server c.round.new.at.server c.args.timeline.now c.round.new.timeline (Err c.in-Err.fault)
+    run_earned (g.S.System.outside c.args.system.now) (g.G.Games.facts c.args.system.now) ((g.S.System.outside c.args.system.now).port c.args.port.now).to c.args.at.now.replies.most (form_in c.args.at.now.lines) [] c.args.n c.args.at.now.server c.round.new.at.server c.args.timeline.now c.round.new.timeline (Err c.in-Err.fault)
     (returns-in-Err-clause-run g c)
 
 pub returns-clause-run : goal.returns-clause-run
@@ -64,10 +64,10 @@ returns-clause-run g c =
     let inv = c.loop-left.invariant in
     let of = inv.of in
     let test = c.loop-left-test.false in
-    served_all (g.S.System.outside c.args.system.now) g.G.Games.facts c.args.at.now.replies.most (form_in c.args.at.now.lines) c.args.at.now c.loop-left.at c.loop-left.at c.args.port.now c.loop-left.port c.args.timeline.now c.loop-left.timeline c.loop-left.timeline inv.count 0
+    served_all (g.S.System.outside c.args.system.now) (g.G.Games.facts c.args.system.now) c.args.at.now.replies.most (form_in c.args.at.now.lines) c.args.at.now c.loop-left.at c.loop-left.at c.args.port.now c.loop-left.port c.args.timeline.now c.loop-left.timeline c.loop-left.timeline inv.count 0
     inv.same.to inv.most inv.served c.args.n (omega (arith, of, test))
 
 pub returns-clause-earned : goal.returns-clause-earned
 returns-clause-earned g c =
-    run_earned (g.S.System.outside c.args.system.now) g.G.Games.facts ((g.S.System.outside c.args.system.now).port c.args.port.now).to c.args.at.now.replies.most (form_in c.args.at.now.lines) [] c.args.n c.args.at.now.server c.loop-left.at.server c.args.timeline.now c.loop-left.timeline (Ok 0)
+    run_earned (g.S.System.outside c.args.system.now) (g.G.Games.facts c.args.system.now) ((g.S.System.outside c.args.system.now).port c.args.port.now).to c.args.at.now.replies.most (form_in c.args.at.now.lines) [] c.args.n c.args.at.now.server c.loop-left.at.server c.args.timeline.now c.loop-left.timeline (Ok 0)
     (returns-clause-run g c)

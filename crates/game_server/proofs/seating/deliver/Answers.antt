@@ -23,7 +23,7 @@ use Rattle.game_server.proofs.seating.deliver.Goals as goal
 pub returns-in-Ok-keep : goal.returns-in-Ok-keep
 returns-in-Ok-keep g c =
     let o = g.S.System.outside c.args.system.now in
-    let facts = g.G.Games.facts in
+    let facts = (g.G.Games.facts c.args.system.now) in
     let old = c.args.server.now in
     let seat = c.args.seat.now in
     let stamp = stamp_in c.args.message.now in
@@ -63,7 +63,7 @@ returns-in-Ok-keep g c =
 pub returns-in-Err-keep : goal.returns-in-Err-keep
 returns-in-Err-keep g c =
     let o = g.S.System.outside c.args.system.now in
-    let facts = g.G.Games.facts in
+    let facts = (g.G.Games.facts c.args.system.now) in
     let old = c.args.server.now in
     let stamp = stamp_in c.args.message.now in
     let outputs = c.in-Ok.outputs.items in
@@ -99,7 +99,7 @@ returns-in-Err-keep g c =
 pub returns-in-Err : goal.returns-in-Err
 returns-in-Err g c =
     let o = g.S.System.outside c.args.system.now in
-    let facts = g.G.Games.facts in
+    let facts = (g.G.Games.facts c.args.system.now) in
     let old = c.args.server.now in
     let seat = c.args.seat.now in
     let stamp = stamp_in c.args.message.now in
