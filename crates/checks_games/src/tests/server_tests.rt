@@ -1,5 +1,8 @@
 //! A server of games over a system in memory: what it answers, the lines of its run, and the order of all that happens.
 
+ghost use Rattle.std.specs.Prelude.{[]};
+ghost use Rattle.game_server.specs.Printing.{KnowsLines};
+
 use crate::tests::arbiters::{NAME, stamp_of};
 use crate::tests::comparing::{check_bytes, check_same, push_bytes};
 use crate::tests::playing::{message_at, record_at};
@@ -60,6 +63,14 @@ struct Row {
     lines: &'static str,
     status: Result<u8, WriteFault>,
     happens: &'static str,
+}
+
+/// A row, where its games are, and their paths.
+#[derive(Clone, Copy)]
+struct Case<'r> {
+    place: Place,
+    shelf: &'r Shelf,
+    row: &'r Row,
 }
 
 /// The delay of the game at a place.
@@ -370,23 +381,35 @@ fn config_of(rt: &impl Abort, together: usize) -> ServerConfig<'static> {
     }
 }
 
+/// All lines, none, or changes; or those of the first game alone.
+fn lines_of(rt: &impl Abort, alloc: Global, place: Place) -> Lines
+    ensures { KnowsLines result [] }
+{
+    match place {
+        Place::Files(form) => Lines::OfGames(LineLog::new(alloc, form).expect(rt, "memory")),
+        Place::Store => Lines::OfGames(LineLog::All),
+        Place::Alone => Lines::OfOne(stamp_at(rt, 0)),
+    }
+}
+
 /// Opens a server and lets it answer the datagrams of a port which sends to who asked.
 fn run<'a, G: Games<MemorySystem<'a>> + Drop>(
     rt: &impl Abort,
     alloc: Global,
     system: &MemorySystem<'a>,
     timeline: &mut MemoryTimeline,
-    (games, lines): (G, Lines),
-    row: &Row,
+    games: G,
+    case: Case<'_>,
 ) -> Result<u8, WriteFault> {
     let mut port = system
         .bind(timeline, alloc, "127.0.0.1:1000", &["sender"])
         .ok()
         .expect(rt, "port");
-    let config = config_of(rt, row.together);
+    let config = config_of(rt, case.row.together);
     let set = Set::new(alloc, 1).expect(rt, "memory");
+    let lines = lines_of(rt, alloc, case.place);
     let mut at = PortServer::open(alloc, config, set, games, lines).expect(rt, "memory");
-    serve(&mut at, system, timeline, &mut port, row.datagrams)
+    serve(&mut at, system, timeline, &mut port, case.row.datagrams)
 }
 
 /// The games of a folder, with an empty store.
@@ -415,35 +438,26 @@ fn one_game<'a>(rt: &impl Abort, shelf: &'a Shelf) -> OneGame<'a> {
     )
 }
 
-/// All lines, or none, or changes.
-fn log_of(rt: &impl Abort, alloc: Global, form: LogForm) -> Lines {
-    Lines::OfGames(LineLog::new(alloc, form).expect(rt, "memory"))
-}
-
-/// How a run of a row ends.
+/// How a run ends.
 fn ended<'a>(
     rt: &impl Abort,
     alloc: Global,
     system: &MemorySystem<'a>,
     timeline: &mut MemoryTimeline,
-    (place, shelf): (Place, &Shelf),
-    row: &Row,
+    case: Case<'_>,
 ) -> Result<u8, WriteFault> {
-    match place {
-        Place::Files(form) => {
+    match case.place {
+        Place::Files(_) => {
             let games = FolderGames { folder: FOLDER };
-            let lines = log_of(rt, alloc, form);
-            run(rt, alloc, system, timeline, (games, lines), row)
+            run(rt, alloc, system, timeline, games, case)
         }
         Place::Store => {
             let games = stored_games(rt, alloc, system, timeline);
-            let lines = log_of(rt, alloc, LogForm::All);
-            run(rt, alloc, system, timeline, (games, lines), row)
+            run(rt, alloc, system, timeline, games, case)
         }
         Place::Alone => {
-            let games = one_game(rt, shelf);
-            let lines = Lines::OfOne(stamp_at(rt, 0));
-            run(rt, alloc, system, timeline, (games, lines), row)
+            let games = one_game(rt, case.shelf);
+            run(rt, alloc, system, timeline, games, case)
         }
     }
 }
@@ -465,11 +479,10 @@ fn at_path<'a, T: Copy>(path: &'a String, holds: T) -> AtPath<'a, T> {
     }
 }
 
-/// A system with these files, what is kept at a path and at all others, and what comes at its port.
+/// A system with these files, what is kept at these paths, and what comes at its port.
 fn system_of<'a>(
     files: &'a [AtPath<'a, &'a [u8]>],
     kept: &'a [AtPath<'a, KeptStart<'a>>],
-    elsewhere: KeptStart<'a>,
     turns: &'a [Turn<'a>],
 ) -> MemorySystem<'a> {
     MemorySystem {
@@ -484,7 +497,7 @@ fn system_of<'a>(
             fails: false,
         },
         kept,
-        elsewhere,
+        elsewhere: kept_start(None, &[]),
         binds: true,
         own: None,
         turns: Turns::Each(turns),
@@ -506,15 +519,10 @@ fn bytes_in(got: &Option<Vec<u8>>) -> Option<&[u8]> {
     }
 }
 
-/// A run of a row over a shelf of games: its lines, its end, and all that happens.
-fn check_over(
-    rt: &impl Abort,
-    alloc: Global,
-    shelf: &Shelf,
-    place: Place,
-    row: &Row,
-    turns: &[Turn<'_>],
-) {
+/// A run of a row: its lines, its end, and all that happens.
+fn check_over(rt: &impl Abort, alloc: Global, case: Case<'_>, turns: &[Turn<'_>]) {
+    let shelf = case.shelf;
+    let row = case.row;
     let files = [
         at_path(&shelf.told[0], shelf.texts[0].as_slice()),
         at_path(&shelf.told[1], shelf.texts[1].as_slice()),
@@ -528,24 +536,29 @@ fn check_over(
         at_path(&shelf.kept[1], kept_start(bytes_in(&second), &[])),
         at_path(&shelf.kept[2], kept_start(bytes_in(&third), &[])),
     ];
-    let system = system_of(&files, &kept, kept_start(None, &[]), turns);
+    let system = system_of(&files, &kept, turns);
     let mut timeline = MemoryTimeline::new(alloc, row.fails_at);
-    let status = ended(rt, alloc, &system, &mut timeline, (place, shelf), row);
+    let status = ended(rt, alloc, &system, &mut timeline, case);
     check_events(rt, alloc, shelf, &timeline, row.happens);
     check_lines(rt, alloc, shelf, &timeline, row.lines);
     check_same(rt, status, row.status, row.words);
 }
 
-fn check_row(rt: &impl Abort, alloc: Global, shelf: &Shelf, place: Place, row: &Row) {
-    let datagrams = datagrams_of(rt, alloc, row.words);
-    let turns = turns_of(rt, alloc, row.words, &datagrams);
-    check_over(rt, alloc, shelf, place, row, &turns);
+fn check_row(rt: &impl Abort, alloc: Global, case: Case<'_>) {
+    let datagrams = datagrams_of(rt, alloc, case.row.words);
+    let turns = turns_of(rt, alloc, case.row.words, &datagrams);
+    check_over(rt, alloc, case, &turns);
 }
 
 fn check_rows(rt: &impl Abort, alloc: Global, place: Place, rows: &[Row]) {
     let shelf = new_shelf(rt, alloc);
     for row in rows {
-        check_row(rt, alloc, &shelf, place, row);
+        let case = Case {
+            place,
+            shelf: &shelf,
+            row,
+        };
+        check_row(rt, alloc, case);
     }
 }
 
@@ -955,7 +968,7 @@ fn opened(
         .ok()
         .expect(rt, "port");
     let games = FolderGames { folder: FOLDER };
-    let lines = log_of(rt, alloc, LogForm::All);
+    let lines = Lines::OfGames(LineLog::All);
     let set = Set::new(alloc, 1).expect(rt, "memory");
     let mut at = PortServer::open(alloc, config_of(rt, 1), set, games, lines).expect(rt, "memory");
     let stamp = stamp_at(rt, place);
@@ -968,7 +981,7 @@ fn check_unasked(rt: &impl Abort, alloc: Global, shelf: &Shelf, row: &Unasked) {
     let files = [at_path(&shelf.told[0], shelf.texts[0].as_slice())];
     let first = record_before(rt, alloc, row.before, 0);
     let kept = [at_path(&shelf.kept[0], kept_start(bytes_in(&first), row.outcomes))];
-    let system = system_of(&files, &kept, kept_start(None, &[]), &[]);
+    let system = system_of(&files, &kept, &[]);
     let mut timeline = MemoryTimeline::new(alloc, None);
     let is_open = opened(rt, alloc, &system, &mut timeline, row.place);
     check_events(rt, alloc, shelf, &timeline, row.happens);
