@@ -10,7 +10,7 @@ use Rattle.arbiter_server.specs.declared.fault.OpenGameError.{OpenGameError}
 use Rattle.arbiter_server.specs.declared.fault.OpenGameError.TheVariants as unopened
 use Rattle.system_io.specs.Records.{Records, StoredRecord, entry_record, records_of, with_all, with_entry}
 use Rattle.system_io.specs.declared.record_store.Entry.{Entry}
-use Rattle.game_folder.specs.StoreGames.{bytes_in, given_record, last_noted}
+use Rattle.game_folder.specs.StoreGames.{its_bytes, given_record, last_noted}
 
 pub contains_map : {A B : Type 0} (f : A → B) (xs : List A) (x : A) → Contains xs x → Contains (map f xs) (f x)
 contains_map f xs x h = (h.0, subst (λ n. h.0 < n) (sym (length-map xs f)) h.1, get_or-map f xs h.0 x (f x) h.1 ∙ ap f h.2)
@@ -37,7 +37,7 @@ found_among records (e ∷ entries) stamp r is = elim (found_among (with_entry r
 -- what is noted last is noted
 pub last_is_noted : (entries : List Entry) (stamp bytes : List ℕ) → last_noted entries stamp ≡ Some bytes → (e : Entry) × Contains entries e × (e.stamp ≡ stamp) × (e.record.items ≡ bytes)
 last_is_noted entries stamp bytes is = by_record (records_of entries stamp) refl is where
-  by_record : (o : Option StoredRecord) → records_of entries stamp ≡ o → bytes_in o ≡ Some bytes → (e : Entry) × Contains entries e × (e.stamp ≡ stamp) × (e.record.items ≡ bytes)
+  by_record : (o : Option StoredRecord) → records_of entries stamp ≡ o → its_bytes o ≡ Some bytes → (e : Entry) × Contains entries e × (e.stamp ≡ stamp) × (e.record.items ≡ bytes)
   by_record None of none = absurd (let wrong : None ≡ Some bytes = none in cc)
   by_record (Some r) of some = elim (found_among (λ _. None) entries stamp r of) [
     | inl h ↦ (h.0, h.1, h.2, ap (λ (s : StoredRecord). s.bytes) h.3 ∙ (let s : Some r.bytes ≡ Some bytes = some in cc))
@@ -65,19 +65,19 @@ module _ (has : Records) (entries : List Entry) (stamp : List ℕ) where
   over_store = over_all (λ _. None) has entries stamp (has stamp) refl
 
   -- what is noted last comes before what the store has
-  pub noted_first : (bytes : List ℕ) → last_noted entries stamp ≡ Some bytes → bytes_in (with_all has entries stamp) ≡ Some bytes
+  pub noted_first : (bytes : List ℕ) → last_noted entries stamp ≡ Some bytes → its_bytes (with_all has entries stamp) ≡ Some bytes
   unfolding either
   noted_first bytes is = by_record (records_of entries stamp) refl is where
-    by_record : (o : Option StoredRecord) → records_of entries stamp ≡ o → bytes_in o ≡ Some bytes → bytes_in (with_all has entries stamp) ≡ Some bytes
+    by_record : (o : Option StoredRecord) → records_of entries stamp ≡ o → its_bytes o ≡ Some bytes → its_bytes (with_all has entries stamp) ≡ Some bytes
     by_record None of none = absurd (let wrong : None ≡ Some bytes = none in cc)
-    by_record (Some r) of some = ap bytes_in (over_store ∙ ap (λ (v : Option StoredRecord). either v (has stamp)) of) ∙ some
+    by_record (Some r) of some = ap its_bytes (over_store ∙ ap (λ (v : Option StoredRecord). either v (has stamp)) of) ∙ some
 
   -- what the store has counts where nothing is noted
-  pub store_else : last_noted entries stamp ≡ None → bytes_in (with_all has entries stamp) ≡ bytes_in (has stamp)
+  pub store_else : last_noted entries stamp ≡ None → its_bytes (with_all has entries stamp) ≡ its_bytes (has stamp)
   unfolding either
   store_else is = by_record (records_of entries stamp) refl is where
-    by_record : (o : Option StoredRecord) → records_of entries stamp ≡ o → bytes_in o ≡ None → bytes_in (with_all has entries stamp) ≡ bytes_in (has stamp)
-    by_record None of none = ap bytes_in (over_store ∙ ap (λ (v : Option StoredRecord). either v (has stamp)) of)
+    by_record : (o : Option StoredRecord) → records_of entries stamp ≡ o → its_bytes o ≡ None → its_bytes (with_all has entries stamp) ≡ its_bytes (has stamp)
+    by_record None of none = ap its_bytes (over_store ∙ ap (λ (v : Option StoredRecord). either v (has stamp)) of)
     by_record (Some r) of some = absurd (let wrong : Some r.bytes ≡ None = some in cc)
 
 -- ---- what is given

@@ -19,7 +19,7 @@ use Rattle.timeline.specs.Outsides.{Outside}
 use Rattle.game_folder.specs.Drafts.{settled}
 use Rattle.game_folder.specs.Holdings.{CommitsGames, IsKeptIn, IsTaken, KeepsGame, SendsNothing, StaysNoted, TakesGame, kept_of, known}
 use Rattle.game_folder.specs.Places.{InFile, InStore, WasKept}
-use Rattle.game_folder.specs.StoreGames.{CommitsNoted, CouldNot, HadNoRoom, HasAll, HadNone, IsInStore, HasNoted, LacksMemory, LooksUpRecord, LosesStore, MayGive, Notes, StoredGames, TakesFromStore, WasNoted, WasRefused, WasSought, bytes_in, given_record, kept_bytes, last_noted, loss_told, store_games_facts}
+use Rattle.game_folder.specs.StoreGames.{CommitsNoted, CouldNot, HadNoRoom, HasAll, HadNone, IsInStore, HasNoted, LacksMemory, LooksUpRecord, LosesStore, MayGive, Notes, StoredGames, TakesFromStore, WasNoted, WasRefused, WasSought, its_bytes, given_record, kept_bytes, last_noted, loss_told, store_games_facts}
 use Rattle.game_folder.specs.declared.games.KeptGame.{KeptGame}
 use Rattle.game_folder.specs.declared.store_games.Loss.{Loss}
 use Rattle.game_folder.proofs.NotedLaws.{contains_map, given_value, last_is_noted, noted_first, store_else}
@@ -192,10 +192,10 @@ module _ {T P F K S L : Type 0} (o : Outside T P F K S L) (g : StoredGames S) (s
   }
 
   -- or was looked for in the store
-  pub looks_up_stored : MayGive g stamp → None ≡ last_noted g.noted stamp → (store : S) (key : List ℕ) → store ≡ g.store → key ≡ stamp → (got : Option (List ℕ)) → got ≡ bytes_in ((o.store store).has key)
+  pub looks_up_stored : MayGive g stamp → None ≡ last_noted g.noted stamp → (store : S) (key : List ℕ) → store ≡ g.store → key ≡ stamp → (got : Option (List ℕ)) → got ≡ its_bytes ((o.store store).has key)
       → (result : Result (KeptGame F) OpenGameError) → kept_of result ≡ given_record got → IfOk result (IsInStore stamp) → LooksUpRecord o g stamp result (RecordSought (o.store_path store) key got ∷ [])
   looks_up_stored may noted store key same of got has result kept ok = record {
     taken = WasSought may (sym noted) got kept (ap (λ (s : S). RecordSought (o.store_path s) key got ∷ []) same ∙ ap (λ (k : List ℕ). RecordSought (o.store_path g.store) k got ∷ []) of);
     ok = ok;
-    gives = given_as got (kept_bytes o g stamp) (has ∙ ap (λ (s : S). bytes_in ((o.store s).has key)) same ∙ ap (λ (k : List ℕ). bytes_in ((o.store g.store).has k)) of ∙ sym (store_else (o.store g.store).has g.noted stamp (sym noted))) result kept;
+    gives = given_as got (kept_bytes o g stamp) (has ∙ ap (λ (s : S). its_bytes ((o.store s).has key)) same ∙ ap (λ (k : List ℕ). its_bytes ((o.store g.store).has k)) of ∙ sym (store_else (o.store g.store).has g.noted stamp (sym noted))) result kept;
   }

@@ -38,12 +38,12 @@ loss_told OfMemory = uncommitted.NotNoted
 abbrev pub HasNoted : {S : Type 0} → StoredGames S → List ℕ → List ℕ → Type 0
 HasNoted g stamp bytes = IsSome g.loss ⊎ ((e : Entry) × Contains g.noted e × (e.stamp ≡ stamp) × (e.record.items ≡ bytes))
 
-abbrev pub bytes_in : Option StoredRecord → Option (List ℕ)
-bytes_in = option_map (λ r. r.bytes)
+abbrev pub its_bytes : Option StoredRecord → Option (List ℕ)
+its_bytes = option_map (λ r. r.bytes)
 
 -- the bytes that are noted last of the game with this stamp
 abbrev pub last_noted : List Entry → List ℕ → Option (List ℕ)
-last_noted noted stamp = bytes_in (records_of noted stamp)
+last_noted noted stamp = its_bytes (records_of noted stamp)
 
 -- so many moves has the record that the bytes spell; 0 where they spell none
 pub record IsCountOf (bytes : List ℕ) (count : ℕ) : Type 0 where
@@ -90,7 +90,7 @@ pub record IsInStore {F : Type 0} (stamp : List ℕ) (game : KeptGame F) : Type 
 module _ {T P F K S L : Type 0} (o : Outside T P F K S L) where
   -- what is kept of the game with this stamp: what is noted, in place of what the store has
   abbrev pub kept_bytes : StoredGames S → List ℕ → Option (List ℕ)
-  kept_bytes g stamp = bytes_in (with_all (o.store g.store).has g.noted stamp)
+  kept_bytes g stamp = its_bytes (with_all (o.store g.store).has g.noted stamp)
 
   -- the record of a game was looked for among what is noted, and then in the store
   pub record LooksUpRecord (g : StoredGames S) (stamp : List ℕ) (result : Result (KeptGame F) OpenGameError) (events : List Event) : Type 0 where

@@ -156,7 +156,7 @@ module _ {G : Type 0} (facts : GamesFacts G) (at_once : KeepsAtOnce facts) (t : 
   opens_stays m apart past events told (IsOther game opens finds not is) = at_once.finds place stamp (stamp_in m) (Ok game) events past finds
   opens_stays m apart past events told (IsFound game looked rest opens finds game_is takes are) =
       stays_as at stamp past events (looked ++ rest) are
-      (stays_join at stamp past looked rest (at_once.finds place stamp (stamp_in m) (Ok game) looked past finds) (taking_stays (stamp_in m) apart (game, looked, finds) (behind past looked) game rest told takes))
+      (stays_join at stamp past looked rest (at_once.finds place stamp (stamp_in m) (Ok game) looked past finds) (taking_stays (stamp_in m) apart (record { game = game; events = looked; finds = finds; manifest = t.manifest; is = game_is }) (behind past looked) game rest told takes))
 
   has_stays : (m : Message) → bytes_eq (stamp_in m) stamp ≡ false → (past events : List Event) (was : Option (Moment DraftView)) (now : Moment DraftView) → HasGame facts t g m was events now → StaysFound at stamp past events
   has_stays m apart past events (Some x) now h = stays_none at stamp past events h.1
@@ -169,7 +169,7 @@ module _ {G : Type 0} (facts : GamesFacts G) (t : CommonView) (g : G) where
   opened_told m events now (OpensNone opens none is) = absurd (let f : ◌≡◌ {A = Result (Moment DraftView) OpenGameError} (Ok now) (Err why_not.NotOpen) = is in cc)
   opened_told m events now (NotFound why opens finds is) = absurd (let f : ◌≡◌ {A = Result (Moment DraftView) OpenGameError} (Ok now) (Err why) = is in cc)
   opened_told m events now (IsOther game opens finds not is) = absurd (let f : ◌≡◌ {A = Result (Moment DraftView) OpenGameError} (Ok now) (Err why_not.OtherGame) = is in cc)
-  opened_told m events now (IsFound game looked rest opens finds game_is takes are) = (game, looked, finds)
+  opened_told m events now (IsFound game looked rest opens finds game_is takes are) = record { game = game; events = looked; finds = finds; manifest = t.manifest; is = game_is }
 
   -- where it was open, it was found before
   abbrev pub WasTold : Message → Option (Moment DraftView) → Type 0

@@ -1,5 +1,5 @@
 -- What was told lasts, by the events of all runs.
-use Rattle.std.proofs.Common.{◌≡◌, inl, ◌∙◌, ℕ, List, [], ◌∷◌, ◌++◌, Option, Some, None, option_map, refl, sym, ap, subst}
+use Rattle.std.proofs.Common.{◌≡◌, inl, ◌∙◌, ℕ, List, [], ◌∷◌, ◌++◌, Option, Some, None, flat_map, option_map, refl, sym, ap, subst}
 use Rattle.std.specs.Prelude.{Ok, Err}
 use Rattle.std.specs.List.{AllByRecursion}
 use Rattle.arbiter_core.specs.Opens.{OpenResult}
@@ -15,13 +15,13 @@ use Rattle.game_folder.specs.Places.{KeptAt}
 use Rattle.game_server.specs.Seats.{common, open_at, seat_moment}
 use Rattle.game_server.specs.declared.seat.Seat.{Seat}
 use Rattle.game_server.specs.declared.server.Server.{Server}
-use Rattle.served_games.specs.Durable.{AreServedRuns, AreToldAt, FoundGame, IsDurableAfter, IsFoundIn, IsServedRun, IsToldAt, KeepsAtOnce, LastsBehind, MayFind, RunsLast, ServedRun, behind, events_of, events_of_all, heard_in_run, work_of}
+use Rattle.served_games.specs.Durable.{AreServedRuns, AreToldAt, IsDurableAfter, IsFoundIn, IsServedRun, IsToldAt, KeepsAtOnce, LastsBehind, MayFind, RunsLast, ServedRun, StaysFound, behind, events_of, events_of_all, heard_in_run, made_of, work_of}
 use Rattle.served_games.specs.Lasting.{Between, IsOfOne, IsToldStill, PlaceRun, RanInTurn, RanOver, left_by}
 use Rattle.served_games.specs.PlaceKeepers.{Follows, PlaceKeeper, found_keeper, place_keepers}
-use Rattle.served_games.specs.ServedGames.{AreOverLeft, IsAt, LostAreClosed, PlaysAll, all_acts, game_at}
+use Rattle.served_games.specs.ServedGames.{AreOverLeft, IsAt, LostAreClosed, OpenedGame, acts_in, game_at}
 use Rattle.served_games.proofs.Finding.{behind_join, durable_first, durable_rest, found_stays}
-use Rattle.served_games.proofs.Following.{work_found}
-use Rattle.served_games.proofs.Going.{Acts, Life, played_are_hosted}
+use Rattle.served_games.proofs.Following.{opened_found}
+use Rattle.served_games.proofs.Going.{Acts, Life, opened_goes}
 use Rattle.served_games.proofs.Lasting.{each_lasts}
 
 -- ---- acts
@@ -57,23 +57,29 @@ left_found at stamp past before Fresh h found m = h found m
 left_found at stamp past before (Shut left) h found m = h found m
 left_found at stamp past before (Open now) h found m = inl (h found m)
 
-closed_at : {G F : Type 0} (server : Server G F) (k : Option (Seat F)) → k ≡ None → IsAt (option_map (seat_moment server.tables) k) Fresh
+pub closed_at : {G F : Type 0} (server : Server G F) (k : Option (Seat F)) → k ≡ None → IsAt (option_map (seat_moment server.tables) k) Fresh
 closed_at {F = F} server k none = subst (λ (x : Option (Seat F)). IsAt (option_map (seat_moment server.tables) x) Fresh) (sym none) tt
 
 module _ {T P F K S L G : Type 0} (o : Outside T P F K S L) (facts : GamesFacts G) (closes : LostAreClosed o facts) (at_once : KeepsAtOnce facts) (place : facts.Place) (stamp : List ℕ) (setup : SetupView) (mine : IsToldAt facts place stamp) where
   abbrev at : KeptAt
   at = facts.places place stamp
 
+  abbrev GameIn : ServedRun G F → Type 0
+  GameIn r = OpenedGame facts place (common r.old) stamp r.unasked (game_at r.begun stamp) (heard_in_run r)
+
   -- what one run does, and leaves
   record RunDone (before : PlaceKeeper) (past : List Event) (r : ServedRun G F) : Type 0 where
-    each : List Acts
-    life : Life
-    plays : PlaysAll facts place (common r.old) stamp Fresh (heard_in_run r) each life
-    ran : RanOver facts place stamp setup before (record { acts = all_acts each; left = left_by before life })
-    found : (found : Option (List ℕ)) → MayFind at stamp (behind past (events_of r)) found → Follows (left_by before life) (found_keeper found)
+    game : GameIn r
+    over : AreOverLeft Fresh (acts_in game)
+    ran : RanOver facts place stamp setup before (record { acts = acts_in game; left = left_by before game.life })
+    found : (found : Option (List ℕ)) → MayFind at stamp (behind past (events_of r)) found → Follows (left_by before game.life) (found_keeper found)
 
   events_join : (past : List Event) (r : ServedRun G F) → behind past (events_of r) ≡ behind (behind (behind past r.first) (work_of r)) r.tail
   events_join past r = behind_join past r.first (work_of r ++ r.tail) ∙ behind_join (behind past r.first) (work_of r) r.tail
+
+  -- the same at a place
+  abbrev DoneAt : PlaceKeeper → List Event → ServedRun G F → facts.Place → Type 0
+  DoneAt before past r x = (game : OpenedGame facts x (common r.old) stamp r.unasked (game_at r.begun stamp) (heard_in_run r)) × AreOverLeft (Shut before) (acts_in game) × IsFoundIn (facts.places x stamp) stamp past before game.life
 
   run_done : (before : PlaceKeeper) (past : List Event) (r : ServedRun G F) → IsServedRun o facts place stamp setup past r → IsDurableAfter at stamp past (events_of r) → ((found : Option (List ℕ)) → MayFind at stamp past found → Follows before (found_keeper found)) → RunDone before past r
   run_done before past r is durable found = by f
@@ -93,24 +99,27 @@ module _ {T P F K S L G : Type 0} (o : Outside T P F K S L) (facts : GamesFacts 
         each = λ other seat some. absurd (let f : ◌≡◌ {A = Option (Seat F)} None (Some seat) = sym (is.closed other) ∙ some in cc);
       }
 
-      f : FoundGame facts place (common r.old) stamp before Fresh (heard_in_run r) (game_at r.new stamp) (behind (behind past r.first) (work_of r))
+      f : DoneAt before (behind (behind past r.first) (work_of r)) r place
       f =
-          subst (λ (x : facts.Place). FoundGame facts x (common r.old) stamp before Fresh (heard_in_run r) (game_at r.new stamp) (behind (behind past r.first) (work_of r))) is.there
-          (work_found o facts closes at_once stamp before is.most is.form is.texts r.to r.old r.mid r.new r.turns r.heard Fresh (behind past r.first) is.in_turns is.hears told (closed_at r.old (open_at r.old stamp) (is.closed stamp))
+          subst (DoneAt before (behind (behind past r.first) (work_of r)) r) is.there
+          (let q = opened_found o facts closes at_once stamp before is.most is.form is.texts r.to r.old r.begun r.mid r.new r.unasked r.asked r.turns r.heard (behind past r.first) is.opens is.in_turns is.hears told (closed_at r.old (open_at r.old stamp) (is.closed stamp))
+          (subst (λ (x : facts.Place). StaysFound (facts.places x stamp) stamp (behind (behind past r.first) (flat_map made_of r.unasked)) r.asked) (sym is.there) is.asked_stays)
           (subst (λ (x : facts.Place). IsDurableAfter (facts.places x stamp) stamp (behind past r.first) (work_of r)) (sym is.there) durable_work)
-          (subst (λ (x : facts.Place). IsFoundIn (facts.places x stamp) stamp (behind past r.first) before Fresh) (sym is.there) found_first))
+          (subst (λ (x : facts.Place). IsFoundIn (facts.places x stamp) stamp (behind past r.first) before Fresh) (sym is.there) found_first) in
+          (q.game, q.over, q.found))
 
-      by : FoundGame facts place (common r.old) stamp before Fresh (heard_in_run r) (game_at r.new stamp) (behind (behind past r.first) (work_of r)) → RunDone before past r
+      by : DoneAt before (behind (behind past r.first) (work_of r)) r place → RunDone before past r
       by g =
-          let acts = all_acts g.played.each in
-          let on = (played_are_hosted facts place (common r.old) stamp Fresh g.played.life (heard_in_run r) g.played.each g.played.plays).on in
-          let goes : Goes (place_keepers facts place) (common r.old) stamp Fresh acts g.played.life = on.goes (over_fresh before acts g.over) in
+          let p = g.0 in
+          let acts = acts_in p in
+          let t = common r.old in
+          let over : AreOverLeft Fresh acts = over_fresh before acts g.1 in
+          let goes : Goes (place_keepers facts place) t stamp Fresh acts p.life = opened_goes facts place t stamp r.unasked (game_at r.begun stamp) (heard_in_run r) p over in
           record {
-            each = g.played.each;
-            life = g.played.life;
-            plays = g.played.plays;
-            ran = record { common = common r.old; life = g.played.life; goes = goes; one = all_one facts place (common r.old) stamp setup is.one Fresh g.played.life acts goes; over = g.over; stops = Between refl };
-            found = λ k m. left_found at stamp (behind (behind past r.first) (work_of r)) before g.played.life g.found k (is.tail_stays k (subst (λ (l : List Event). MayFind at stamp l k) (events_join past r) m));
+            game = p;
+            over = over;
+            ran = record { common = t; life = p.life; goes = goes; one = all_one facts place t stamp setup is.one Fresh p.life acts goes; over = g.1; stops = Between refl };
+            found = λ k m. left_found at stamp (behind (behind past r.first) (work_of r)) before p.life g.2 k (is.tail_stays k (subst (λ (l : List Event). MayFind at stamp l k) (events_join past r) m));
           }
 
   -- all of them, one after another
@@ -129,13 +138,13 @@ module _ {T P F K S L G : Type 0} (o : Outside T P F K S L) (facts : GamesFacts 
       let events = events_of r in
       let rest = events_of_all rs in
       let d = run_done before past r are.0 (durable_first at stamp past events rest durable) found in
-      let m = runs_done (left_by before d.life) (behind past events) rs are.1 (durable_rest at stamp past events rest durable) d.found in
+      let m = runs_done (left_by before d.game.life) (behind past events) rs are.1 (durable_rest at stamp past events rest durable) d.found in
       record {
-        places = record { acts = all_acts d.each; left = left_by before d.life } ∷ m.places;
+        places = record { acts = acts_in d.game; left = left_by before d.game.life } ∷ m.places;
         last = m.last;
         ran = (d.ran, m.ran);
         found = λ k may. m.found k (subst (λ (l : List Event). MayFind at stamp l k) (behind_join past events rest) may);
-        lasts = λ later h. (record { each = d.each; life = d.life; plays = d.plays; lasts = λ k may. (h k may).0 }, m.lasts later (λ k may. (h k may).1));
+        lasts = λ later h. (record { game = d.game; over = d.over; lasts = λ k may. (h k may).0 }, m.lasts later (λ k may. (h k may).1));
       }
 
 pub runs_last : {T P F K S L G : Type 0} (o : Outside T P F K S L) (facts : GamesFacts G) → LostAreClosed o facts → KeepsAtOnce facts → RunsLast o facts

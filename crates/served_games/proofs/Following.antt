@@ -7,7 +7,7 @@ use Rattle.std.proofs.lemmas.List.Concat.{flat_map-append}
 use Rattle.arbiter_core.specs.Delivers.{Moment}
 use Rattle.arbiter_server.specs.Acts.{is_stamp, stamp_by}
 use Rattle.arbiter_server.proofs.Turning.{same_stamp}
-use Rattle.arbiter_server.specs.Games.{CommonView}
+use Rattle.arbiter_server.specs.Games.{CommonView, Fresh, Shut}
 use Rattle.arbiter_server.specs.Room.{at_stamp}
 use Rattle.judge_core.specs.Tables.{Holding}
 use Rattle.lru.specs.LruCache.{LruCache}
@@ -29,9 +29,9 @@ use Rattle.game_server.specs.Runs.{Answers, Deed, HearsNone, InTurns, IsDeed, Tu
 use Rattle.game_server.specs.Seats.{common, open_at, seat_moment}
 use Rattle.game_server.specs.declared.seat.Seat.{Seat}
 use Rattle.game_server.specs.declared.server.Server.{Server}
-use Rattle.served_games.specs.Durable.{AreToldAt, FoundGame, GamesAreFound, IsDurableAfter, IsFoundIn, IsToldAt, KeepsAtOnce, StaysFound, behind, left_before}
+use Rattle.served_games.specs.Durable.{AreToldAt, FoundGame, GamesAreFound, IsDurableAfter, IsFoundIn, IsToldAt, KeepsAtOnce, StaysFound, behind, left_before, made_of}
 use Rattle.served_games.specs.PlaceKeepers.{PlaceKeeper}
-use Rattle.served_games.specs.ServedGames.{AreOverLeft, IsAt, LostAreClosed, MakesAll, PlaysAll, all_acts, game_at, heard_by, heard_in_turns, is_for, life_through, made_for, reply_for}
+use Rattle.served_games.specs.ServedGames.{AreOverLeft, IsAt, LostAreClosed, MakesAll, OpenedGame, PlaysAll, acts_in, all_acts, game_at, heard_by, heard_in_turns, is_for, life_through, made_for, reply_for}
 use Rattle.served_games.proofs.Asides.{WasTold, aside_one, asides, end_aside, lines_aside, other_stays, round_aside, told_by}
 use Rattle.served_games.proofs.Finding.{acts_found, behind_join, durable_first, durable_rest, found_stays, left_acts, over_join}
 use Rattle.served_games.proofs.Going.{Acts, Life, played_are_hosted, plays_join}
@@ -158,30 +158,29 @@ module _ {T P F K S L G : Type 0} (o : Outside T P F K S L) (facts : GamesFacts 
 
   -- ---- one datagram
 
-  module _ (old new : Server G F) (h : Heard) (d : HearsDatagram o facts old new h.datagram h.reply h.events) (told : AreToldAt facts stamp old) (life : Life) (isat : IsAt (game_at old stamp) life) (past : List Event) (durable : IsDurableAfter (kept_at old) stamp past (heard_events h)) (found : IsFoundIn (kept_at old) stamp past before life) where
-    abbrev came : List Event
-    came = Came h.from h.datagram ∷ past
-
-    came_found : IsFoundIn (kept_at old) stamp came before life
-    came_found = found_stays (kept_at old) stamp past (Came h.from h.datagram ∷ []) before life (aside_one (kept_at old) stamp past (Came h.from h.datagram) tt) found
-
-    from_acts : (n : Next facts (common old) old.games stamp life (reply_for stamp h) (made_for stamp h) (game_at new stamp)) → (events : List Event) → IsFoundIn (kept_at old) stamp (behind came h.events) before (life_through life n.acts) → AreOverLeft (left_before before life) n.acts → FoundOver old life (h ∷ []) new (behind past (heard_events h))
+  -- what is made of it, whether it came or not
+  module _ (old new : Server G F) (h : Heard) (d : HearsDatagram o facts old new h.datagram h.reply h.events) (told : AreToldAt facts stamp old) (life : Life) (isat : IsAt (game_at old stamp) life) (past : List Event) (durable : IsDurableAfter (kept_at old) stamp past h.events) (found : IsFoundIn (kept_at old) stamp past before life) where
+    from_acts : (n : Next facts (common old) old.games stamp life (reply_for stamp h) (made_for stamp h) (game_at new stamp)) → IsFoundIn (kept_at old) stamp (behind past h.events) before (life_through life n.acts) → AreOverLeft (left_before before life) n.acts → FoundOver old life (h ∷ []) new (behind past h.events)
     unfolding PlaysAll
-    from_acts n events f over = by_acts facts (place_of old) (common old) stamp before life h (game_at new stamp) (behind came h.events) n.acts n.to (n.to, n.on, refl) n.at n.on.leads over f
+    from_acts n f over = by_acts facts (place_of old) (common old) stamp before life h (game_at new stamp) (behind past h.events) n.acts n.to (n.to, n.on, refl) n.at n.on.leads over f
 
-    by_for : (n : Next facts (common old) old.games stamp life (reply_for stamp h) (made_for stamp h) (game_at new stamp)) (b : Bool) → is_for stamp h ≡ b → FoundOver old life (h ∷ []) new (behind past (heard_events h))
+    by_for : (n : Next facts (common old) old.games stamp life (reply_for stamp h) (made_for stamp h) (game_at new stamp)) (b : Bool) → is_for stamp h ≡ b → FoundOver old life (h ∷ []) new (behind past h.events)
     by_for n true is =
         let makes : MakesAll facts (place_of old) stamp life n.acts h.events = subst (λ (x : Bool). MakesAll facts (place_of old) stamp life n.acts (cond x h.events [])) is n.on.makes in
-        let a = acts_found facts at_once (place_of old) stamp before came h.events life n.acts makes durable.1 came_found in
-        from_acts n h.events a.found a.over
+        let a = acts_found facts at_once (place_of old) stamp before past h.events life n.acts makes durable found in
+        from_acts n a.found a.over
     by_for n false is =
         let makes : MakesAll facts (place_of old) stamp life n.acts [] = subst (λ (x : Bool). MakesAll facts (place_of old) stamp life n.acts (cond x h.events [])) is n.on.makes in
-        let a = acts_found facts at_once (place_of old) stamp before came [] life n.acts makes tt came_found in
-        let stays : StaysFound (kept_at old) stamp came h.events = other_stays facts at_once (common old) old.games stamp told.mine h.datagram (was_open old (heard_in h.datagram)) h.events came d.fate (not_of stamp (heard_in h.datagram) is) (was_told facts stamp old h.datagram told) d.goes in
-        from_acts n h.events (found_stays (kept_at old) stamp came h.events before (life_through life n.acts) stays a.found) a.over
+        let a = acts_found facts at_once (place_of old) stamp before past [] life n.acts makes tt found in
+        let stays : StaysFound (kept_at old) stamp past h.events = other_stays facts at_once (common old) old.games stamp told.mine h.datagram (was_open old (heard_in h.datagram)) h.events past d.fate (not_of stamp (heard_in h.datagram) is) (was_told facts stamp old h.datagram told) d.goes in
+        from_acts n (found_stays (kept_at old) stamp past h.events before (life_through life n.acts) stays a.found) a.over
 
-    one_found : FoundOver old life (h ∷ []) new (behind past (heard_events h))
-    one_found = by_for (played_one o facts old new h d (closes old new h.datagram h.reply h.events d) life stamp isat) (is_for stamp h) refl
+    made_found : FoundOver old life (h ∷ []) new (behind past h.events)
+    made_found = by_for (played_one o facts old new h d (closes old new h.datagram h.reply h.events d) life stamp isat) (is_for stamp h) refl
+
+  came_found : (old new : Server G F) (h : Heard) (d : HearsDatagram o facts old new h.datagram h.reply h.events) → AreToldAt facts stamp old → (life : Life) → IsAt (game_at old stamp) life → (past : List Event) → IsDurableAfter (kept_at old) stamp past (heard_events h) → IsFoundIn (kept_at old) stamp past before life → FoundOver old life (h ∷ []) new (behind past (heard_events h))
+  came_found old new h d told life isat past durable found =
+      made_found old new h d told life isat (Came h.from h.datagram ∷ past) durable.1 (found_stays (kept_at old) stamp past (Came h.from h.datagram ∷ []) before life (aside_one (kept_at old) stamp past (Came h.from h.datagram) tt) found)
 
   -- ---- more of them
 
@@ -194,17 +193,26 @@ module _ {T P F K S L G : Type 0} (o : Outside T P F K S L) (facts : GamesFacts 
   found_mid : (old mid : Server G F) (past : List Event) (life : Life) → StaysServer o facts old mid → IsFoundIn (kept_at old) stamp past before life → IsFoundIn (kept_at mid) stamp past before life
   found_mid old mid past life s f = subst (λ (x : facts.Place). IsFoundIn (facts.places x stamp) stamp past before life) (sym s.place) f
 
+  -- each by its events
+  module _ (events_for : Heard → List Event) (one_found : (old new : Server G F) (h : Heard) (d : HearsDatagram o facts old new h.datagram h.reply h.events) → AreToldAt facts stamp old → (life : Life) → IsAt (game_at old stamp) life → (past : List Event) → IsDurableAfter (kept_at old) stamp past (events_for h) → IsFoundIn (kept_at old) stamp past before life → FoundOver old life (h ∷ []) new (behind past (events_for h))) where
+    each_found : (old new : Server G F) (life : Life) (hs : List Heard) (past : List Event) → HearsAll o facts old hs new → AreToldAt facts stamp old → IsAt (game_at old stamp) life → IsDurableAfter (kept_at old) stamp past (flat_map events_for hs) → IsFoundIn (kept_at old) stamp past before life → FoundOver old life hs new (behind past (flat_map events_for hs))
+    unfolding HearsAll
+    each_found old new life [] past p told isat durable found = nothing facts (place_of old) (common old) stamp before life (game_at new stamp) past (subst (λ (s : Server G F). IsAt (game_at s stamp) life) (sym p) isat) found
+    each_found old new life (h ∷ hs) past p told isat durable found =
+        let events = events_for h in
+        let rest = flat_map events_for hs in
+        let first = one_found old p.0 h p.1 told life isat past (durable_first (kept_at old) stamp past events rest durable) found in
+        let s = stays_one o facts closes stamp old p.0 h p.1 in
+        let more = each_found p.0 new first.played.life hs (behind past events) p.2 (told_one o facts stamp old p.0 h p.1 told) first.played.at (durable_mid old p.0 (behind past events) rest s (durable_rest (kept_at old) stamp past events rest durable)) (found_mid old p.0 (behind past events) first.played.life s first.found) in
+        at_past facts (place_of old) (common old) stamp before life (h ∷ hs) (game_at new stamp) (behind (behind past events) rest) (behind past (events ++ rest)) (behind_join past events rest)
+        (on_heard facts (place_of old) (common old) stamp before life (h ∷ []) hs (game_at p.0 stamp) (game_at new stamp) (behind past events) (behind (behind past events) rest) first (from_before old p.0 first.played.life hs (game_at new stamp) (behind (behind past events) rest) s more))
+
   all_found : (old new : Server G F) (life : Life) (hs : List Heard) (past : List Event) → HearsAll o facts old hs new → AreToldAt facts stamp old → IsAt (game_at old stamp) life → IsDurableAfter (kept_at old) stamp past (flat_map heard_events hs) → IsFoundIn (kept_at old) stamp past before life → FoundOver old life hs new (behind past (flat_map heard_events hs))
-  unfolding HearsAll
-  all_found old new life [] past p told isat durable found = nothing facts (place_of old) (common old) stamp before life (game_at new stamp) past (subst (λ (s : Server G F). IsAt (game_at s stamp) life) (sym p) isat) found
-  all_found old new life (h ∷ hs) past p told isat durable found =
-      let events = heard_events h in
-      let rest = flat_map heard_events hs in
-      let first = one_found old p.0 h p.1 told life isat past (durable_first (kept_at old) stamp past events rest durable) found in
-      let s = stays_one o facts closes stamp old p.0 h p.1 in
-      let more = all_found p.0 new first.played.life hs (behind past events) p.2 (told_one o facts stamp old p.0 h p.1 told) first.played.at (durable_mid old p.0 (behind past events) rest s (durable_rest (kept_at old) stamp past events rest durable)) (found_mid old p.0 (behind past events) first.played.life s first.found) in
-      at_past facts (place_of old) (common old) stamp before life (h ∷ hs) (game_at new stamp) (behind (behind past events) rest) (behind past (events ++ rest)) (behind_join past events rest)
-      (on_heard facts (place_of old) (common old) stamp before life (h ∷ []) hs (game_at p.0 stamp) (game_at new stamp) (behind past events) (behind (behind past events) rest) first (from_before old p.0 first.played.life hs (game_at new stamp) (behind (behind past events) rest) s more))
+  all_found old new life hs past p told isat durable found = each_found heard_events came_found old new life hs past p told isat durable found
+
+  -- what was opened unasked
+  unasked_found : (old new : Server G F) (life : Life) (hs : List Heard) (past : List Event) → HearsAll o facts old hs new → AreToldAt facts stamp old → IsAt (game_at old stamp) life → IsDurableAfter (kept_at old) stamp past (flat_map made_of hs) → IsFoundIn (kept_at old) stamp past before life → FoundOver old life hs new (behind past (flat_map made_of hs))
+  unasked_found old new life hs past p told isat durable found = each_found made_of made_found old new life hs past p told isat durable found
 
   -- ---- a turn
 
@@ -285,6 +293,37 @@ module _ {T P F K S L G : Type 0} (o : Outside T P F K S L) (facts : GamesFacts 
       at_past facts (facts.place old.games) (common old) stamp before life (heard_in_turns turns ++ heard) (game_at new stamp) (behind (behind past all) rest) (behind past (all ++ rest)) (behind_join past all rest)
       (on_heard facts (facts.place old.games) (common old) stamp before life (heard_in_turns turns) heard (game_at mid stamp) (game_at new stamp) (behind past all) (behind (behind past all) rest) first
       (from_before o facts closes at_once stamp before old mid first.played.life heard (game_at new stamp) (behind (behind past all) rest) s more))
+
+  -- what was opened unasked first
+  pub record OpenedFound (old begun new : Server G F) (unasked heard : List Heard) (past : List Event) : Type 0 where
+    pub game : OpenedGame facts (facts.place old.games) (common old) stamp unasked (game_at begun stamp) heard
+    pub over : AreOverLeft (Shut before) (acts_in game)
+    pub found : IsFoundIn (facts.places (facts.place old.games) stamp) stamp past before game.life
+
+  pub opened_found : (most : ℕ) (form : LineForm) (texts : List (List ℕ)) (to : List Recipient) (old begun mid new : Server G F) (unasked : List Heard) (asked : List Event) (turns : List Turn) (heard : List Heard) (past : List Event) → HearsAll o facts old unasked begun → InTurns o facts most form texts begun turns mid → HearsAll o facts mid heard new → AreToldAt facts stamp old → IsAt (game_at old stamp) Fresh
+      → StaysFound (facts.places (facts.place old.games) stamp) stamp (behind past (flat_map made_of unasked)) asked
+      → IsDurableAfter (facts.places (facts.place old.games) stamp) stamp past (flat_map made_of unasked ++ (asked ++ (run_events to turns ++ flat_map heard_events heard))) → IsFoundIn (facts.places (facts.place old.games) stamp) stamp past before Fresh
+      → OpenedFound old begun new unasked (heard_in_turns turns ++ heard) (behind past (flat_map made_of unasked ++ (asked ++ (run_events to turns ++ flat_map heard_events heard))))
+  opened_found most form texts to old begun mid new unasked asked turns heard past opens p hears told isat asks durable found =
+      let place = facts.place old.games in
+      let at = facts.places place stamp in
+      let opened = flat_map made_of unasked in
+      let rest = run_events to turns ++ flat_map heard_events heard in
+      let a = behind past opened in
+      let b = behind a asked in
+      let f = unasked_found o facts closes at_once stamp before old begun Fresh unasked past opens told isat (durable_first at stamp past opened (asked ++ rest) durable) found in
+      let first = on_events facts place (common old) stamp before Fresh unasked (game_at begun stamp) a asked asks f in
+      let s = stays_all o facts closes stamp old begun unasked opens in
+      let q = from_before o facts closes at_once stamp before old begun first.played.life (heard_in_turns turns ++ heard) (game_at new stamp) (behind b rest) s
+      (work_found most form texts to begun mid new turns heard first.played.life b p hears (told_all o facts stamp old begun unasked opens told) first.played.at
+      (durable_mid o facts closes at_once stamp before old begun b rest s (durable_rest at stamp a asked rest (durable_rest at stamp past opened (asked ++ rest) durable))) (found_mid o facts closes at_once stamp before old begun b first.played.life s first.found)) in
+      let p = first.played in
+      let leads : life_through (left_before before Fresh) (all_acts p.each) ≡ left_before before p.life = left_acts before Fresh (all_acts p.each) ∙ ap (left_before before) (played_are_hosted facts place (common old) stamp Fresh p.life unasked p.each p.plays).on.leads in
+      record {
+        game = record { first = p.each; mid = p.life; opens = p.plays; at = p.at; each = q.played.each; life = q.played.life; plays = q.played.plays };
+        over = over_join (left_before before Fresh) (all_acts p.each) (all_acts q.played.each) first.over (subst (λ (l : Life). AreOverLeft l (all_acts q.played.each)) (sym leads) q.over);
+        found = subst (λ (l : List Event). IsFoundIn at stamp l before q.played.life) (sym (behind_join past opened (asked ++ rest) ∙ behind_join a asked rest)) q.found;
+      }
 
 pub games_are_found : {T P F K S L G : Type 0} (o : Outside T P F K S L) (facts : GamesFacts G) → LostAreClosed o facts → KeepsAtOnce facts → GamesAreFound o facts
 games_are_found o facts closes at_once most form texts to old new turns stamp before was past p told isat durable found = turns_found o facts closes at_once stamp before most form texts to old new turns was past p told isat durable found

@@ -1,17 +1,19 @@
 -- Acts of a game behind others.
-use Rattle.std.proofs.Common.{◌≡◌, ◌∙◌, ℕ, Bool, true, cond, List, [], ◌∷◌, ◌++◌, Some, refl, sym, ap, subst, append_assoc}
+use Rattle.std.proofs.Common.{◌≡◌, ◌∙◌, ℕ, Bool, true, cond, List, [], ◌∷◌, ◌++◌, Option, Some, refl, sym, ap, subst, append_assoc}
 use Rattle.std.specs.List.{AllByRecursion, flat_map}
 use Rattle.std.specs.Str.{bytes_eq}
 use Rattle.std.specs.Cmp.Lexicographic.{nat_list_eq_equiv}
 use Rattle.std.proofs.lemmas.List.Concat.{flat_map-append}
+use Rattle.arbiter_core.specs.Delivers.{Moment}
 use Rattle.arbiter_server.specs.Acts.{Action, DatagramReply, acts_of, all_replies, game_of, is_stamp, replies_of}
 use Rattle.arbiter_server.specs.Folders.{Keepers}
-use Rattle.arbiter_server.specs.Games.{CommonView, GameStatus, Goes}
+use Rattle.arbiter_server.specs.Games.{CommonView, Fresh, GameStatus, Goes}
 use Rattle.timeline.specs.Events.{Event}
+use Rattle.game_folder.specs.Drafts.{DraftView}
 use Rattle.game_folder.specs.Holdings.{GamesFacts}
 use Rattle.game_server.specs.Rounds.{Heard}
 use Rattle.served_games.specs.PlaceKeepers.{PlaceKeeper, place_keepers}
-use Rattle.served_games.specs.ServedGames.{ArePlayed, AreOverLeft, GoesOn, MakesAll, PlaysAll, all_acts, life_by, life_through, made_for, reply_for}
+use Rattle.served_games.specs.ServedGames.{ArePlayed, AreOverLeft, GoesOn, MakesAll, OpenedGame, PlaysAll, acts_in, all_acts, life_by, life_through, made_for, reply_for}
 
 abbrev pub Acts : Type 0
 Acts = List (Action PlaceKeeper)
@@ -19,15 +21,15 @@ Acts = List (Action PlaceKeeper)
 abbrev pub Life : Type 0
 Life = GameStatus PlaceKeeper
 
-goes_join : (s : Keepers PlaceKeeper) (t : CommonView) (stamp : List ℕ) (a b c : Life) (xs ys : Acts) → Goes s t stamp a xs b → Goes s t stamp b ys c → Goes s t stamp a (xs ++ ys) c
+pub goes_join : (s : Keepers PlaceKeeper) (t : CommonView) (stamp : List ℕ) (a b c : Life) (xs ys : Acts) → Goes s t stamp a xs b → Goes s t stamp b ys c → Goes s t stamp a (xs ++ ys) c
 goes_join s t stamp a b c [] ys p q = subst (λ (l : Life). Goes s t stamp l ys c) p q
 goes_join s t stamp a b c (x ∷ xs) ys p q = (p.0, p.1, goes_join s t stamp p.0 b c xs ys p.2 q)
 
-left_first : (a : Life) (xs ys : Acts) → AreOverLeft a (xs ++ ys) → AreOverLeft a xs
+pub left_first : (a : Life) (xs ys : Acts) → AreOverLeft a (xs ++ ys) → AreOverLeft a xs
 left_first a [] ys h = tt
 left_first a (x ∷ xs) ys h = (h.0, left_first (life_by a x) xs ys h.1)
 
-left_rest : (a : Life) (xs ys : Acts) → AreOverLeft a (xs ++ ys) → AreOverLeft (life_through a xs) ys
+pub left_rest : (a : Life) (xs ys : Acts) → AreOverLeft a (xs ++ ys) → AreOverLeft (life_through a xs) ys
 left_rest a [] ys h = h
 left_rest a (x ∷ xs) ys h = left_rest (life_by a x) xs ys h.1
 
@@ -35,7 +37,7 @@ leads_join : (a : Life) (xs ys : Acts) → life_through a (xs ++ ys) ≡ life_th
 leads_join a [] ys = refl
 leads_join a (x ∷ xs) ys = leads_join (life_by a x) xs ys
 
-own_join : (stamp : List ℕ) (xs ys : Acts) → AllByRecursion (λ act. game_of act ≡ Some stamp) xs → AllByRecursion (λ act. game_of act ≡ Some stamp) ys → AllByRecursion (λ act. game_of act ≡ Some stamp) (xs ++ ys)
+pub own_join : (stamp : List ℕ) (xs ys : Acts) → AllByRecursion (λ act. game_of act ≡ Some stamp) xs → AllByRecursion (λ act. game_of act ≡ Some stamp) ys → AllByRecursion (λ act. game_of act ≡ Some stamp) (xs ++ ys)
 own_join stamp [] ys p q = q
 own_join stamp (x ∷ xs) ys p q = (p.0, own_join stamp xs ys p.1 q)
 
@@ -60,7 +62,7 @@ module _ {G : Type 0} (facts : GamesFacts G) (place : facts.Place) (t : CommonVi
   own_stamp : bytes_eq stamp stamp ≡ true
   own_stamp = nat_list_eq_equiv.refl stamp
 
-  alone : (acts : Acts) → AllByRecursion (λ act. game_of act ≡ Some stamp) acts → acts_of stamp acts ≡ acts
+  pub alone : (acts : Acts) → AllByRecursion (λ act. game_of act ≡ Some stamp) acts → acts_of stamp acts ≡ acts
   alone [] h = refl
   alone (act ∷ acts) h =
       let is : is_stamp stamp (game_of act) ≡ true = ap (is_stamp stamp) h.0 ∙ own_stamp in
@@ -84,3 +86,21 @@ module _ {G : Type 0} (facts : GamesFacts G) (place : facts.Place) (t : CommonVi
   plays_join a b c [] gs (x ∷ xs) ys p q = absurd p
   plays_join a b c (h ∷ hs) gs [] ys p q = absurd p
   plays_join a b c (h ∷ hs) gs (x ∷ xs) ys p q = (p.0, p.1, plays_join p.0 b c hs gs xs ys p.2 q)
+
+  -- ---- what was opened unasked first
+
+  module _ (unasked : List Heard) (begun : Option (Moment DraftView)) (heard : List Heard) (p : OpenedGame facts place t stamp unasked begun heard) where
+    pub opening_on : ArePlayed facts place t stamp Fresh unasked (all_acts p.first) p.mid
+    opening_on = played_are_hosted Fresh p.mid unasked p.first p.opens
+
+    pub playing_on : ArePlayed facts place t stamp p.mid heard (all_acts p.each) p.life
+    playing_on = played_are_hosted p.mid p.life heard p.each p.plays
+
+    pub over_first : AreOverLeft Fresh (acts_in p) → AreOverLeft Fresh (all_acts p.first)
+    over_first over = left_first Fresh (all_acts p.first) (all_acts p.each) over
+
+    pub over_rest : AreOverLeft Fresh (acts_in p) → AreOverLeft p.mid (all_acts p.each)
+    over_rest over = subst (λ (l : Life). AreOverLeft l (all_acts p.each)) opening_on.on.leads (left_rest Fresh (all_acts p.first) (all_acts p.each) over)
+
+    pub opened_goes : AreOverLeft Fresh (acts_in p) → Goes (place_keepers facts place) t stamp Fresh (acts_in p) p.life
+    opened_goes over = goes_join (place_keepers facts place) t stamp Fresh p.mid p.life (all_acts p.first) (all_acts p.each) (opening_on.on.goes (over_first over)) (playing_on.on.goes (over_rest over))

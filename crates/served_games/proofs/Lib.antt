@@ -10,3 +10,6 @@ pub mod Asides
 pub mod Following
 pub mod Enduring
 pub mod Lost
+pub mod Stamping
+pub mod AtOnce
+pub mod OneGames

@@ -1,5 +1,5 @@
 -- A game whose record isn't kept is closed.
-use Rattle.std.proofs.Common.{◌≡◌, ◌⊎◌, inl, inr, Bool, true, false, cond, Option, None, Some, ap, subst, ◌∙◌}
+use Rattle.std.proofs.Common.{◌≡◌, inl, inr, Bool, true, false, cond, Option, None, Some, ap, ◌∙◌}
 use Rattle.arbiter_core.specs.Delivers.{Moment, moment}
 use Rattle.timeline.specs.Outsides.{Outside}
 use Rattle.game_folder.specs.Drafts.{DraftView, settled}

@@ -92,7 +92,7 @@ module _ {T P F K S L G : Type 0} (o : Outside T P F K S L) (facts : GamesFacts 
 
   module _ (closes : LostAreClosed o facts) (stamp : List ℕ) where
     -- what was played from a server that stayed the same
-    before : (old mid : Server G F) (life : Life) (hs : List Heard) (now : Option (Moment DraftView)) → StaysServer old mid → PlayedGame facts (facts.place mid.games) (common mid) stamp life hs now → PlayedGame facts (facts.place old.games) (common old) stamp life hs now
+    pub before : (old mid : Server G F) (life : Life) (hs : List Heard) (now : Option (Moment DraftView)) → StaysServer old mid → PlayedGame facts (facts.place mid.games) (common mid) stamp life hs now → PlayedGame facts (facts.place old.games) (common old) stamp life hs now
     before old mid life hs now s p = subst (λ (c : CommonView). PlayedGame facts (facts.place old.games) c stamp life hs now) s.common_is (subst (λ (x : facts.Place). PlayedGame facts x (common mid) stamp life hs now) s.place p)
 
     more : (old mid new : Server G F) (life : Life) (hs gs : List Heard) (p : Played old stamp life hs mid) → PlayedGame facts (facts.place old.games) (common old) stamp p.life gs (game_at new stamp) → Played old stamp life (hs ++ gs) new
@@ -121,7 +121,7 @@ module _ {T P F K S L G : Type 0} (o : Outside T P F K S L) (facts : GamesFacts 
     stays_all old new [] p = record { common_is = ap common p; place = ap (λ (s : Server G F). facts.place s.games) p }
     stays_all old new (h ∷ hs) p = stays_on old p.0 new (stays_one old p.0 h p.1) (stays_all p.0 new hs p.2)
 
-    all_played : (old new : Server G F) (life : Life) (hs : List Heard) → HearsAll o facts old hs new → IsAt (game_at old stamp) life → Played old stamp life hs new
+    pub all_played : (old new : Server G F) (life : Life) (hs : List Heard) → HearsAll o facts old hs new → IsAt (game_at old stamp) life → Played old stamp life hs new
     unfolding HearsAll
     all_played old new life [] p at = none_played old new life (ap (λ (s : Server G F). game_at s stamp) p) at
     all_played old new life (h ∷ hs) p at =

@@ -4,8 +4,7 @@ use Rattle.std.specs.List.{AllByRecursion, flat_map}
 use Rattle.std.specs.Str.{bytes_eq}
 use Rattle.arbiter_core.specs.Delivers.{Moment}
 use Rattle.arbiter_core.specs.Setups.{SetupView}
-use Rattle.arbiter_server.specs.Acts.{Action}
-use Rattle.arbiter_server.specs.Games.{CommonView, Fresh, GameStatus, Open, Shut, setup_of}
+use Rattle.arbiter_server.specs.Games.{CommonView, Fresh, GameStatus, IsGameOf, Open, Shut, setup_of}
 use Rattle.arbiter_server.specs.declared.fault.OpenGameError.{OpenGameError}
 use Rattle.arbiter_server.specs.declared.games.GameConfig.{GameConfig}
 use Rattle.system_io.specs.Records.{StoredRecord}
@@ -23,7 +22,7 @@ use Rattle.game_server.specs.declared.seat.Seat.{Seat}
 use Rattle.game_server.specs.declared.server.Server.{Server}
 use Rattle.served_games.specs.Lasting.{IsToldStill}
 use Rattle.served_games.specs.PlaceKeepers.{Follows, PlaceKeeper, found_keeper}
-use Rattle.served_games.specs.ServedGames.{AreOverLeft, IsAt, PlayedGame, PlaysAll, all_acts, game_at, heard_in_turns}
+use Rattle.served_games.specs.ServedGames.{AreOverLeft, IsAt, OpenedGame, PlayedGame, acts_in, all_acts, game_at, heard_in_turns}
 
 -- where two are the same it is so, and where they aren't it is otherwise
 abbrev pub IfSame : List ℕ → List ℕ → Type 0 → Type 0 → Type 0
@@ -103,9 +102,13 @@ IsDurable at stamp events = IsDurableAfter at stamp [] events
 abbrev pub StaysFound : KeptAt → List ℕ → List Event → List Event → Type 0
 StaysFound at stamp past events = (found : Option (List ℕ)) → MayFind at stamp (behind past events) found → MayFind at stamp past found
 
--- a game is found there under this stamp
-abbrev pub IsToldAt : {G : Type 0} (facts : GamesFacts G) → facts.Place → List ℕ → Type 0
-IsToldAt facts place stamp = (game : GameConfig) × (events : List Event) × facts.finds place stamp (Ok game) events
+-- a game is found there under this stamp, and by some tables it has this stamp
+pub record IsToldAt {G : Type 0} (facts : GamesFacts G) (place : facts.Place) (stamp : List ℕ) : Type 0 where
+  pub game : GameConfig
+  pub events : List Event
+  pub finds : facts.finds place stamp (Ok game) events
+  pub manifest : List ℕ
+  pub is : IsGameOf manifest stamp game.name.items game.start game.delay
 
 -- What a game has to put is put where its record is kept, and is found there; so are all records that are kept in files. (In a store it is
 -- noted, and found once that was committed.)
@@ -173,11 +176,15 @@ GamesAreFound {F} {G} o facts =
 
 -- ---- all runs
 
--- A run as far as it went: what happened before its first turn, its turns, the datagrams that it heard behind them, and what happened before it
--- stopped. A put at which it stopped is one that failed; what was heard with it was not answered.
+-- A run as far as it went: what happened before anything was opened; what was opened unasked, each game as by a datagram that didn't come and
+-- whose reply goes to nobody; what happened before the first turn, as a request for moves; the turns, the datagrams that were heard behind
+-- them, and what happened before it stopped. A put at which it stopped is one that failed; what was heard with it was not answered.
 pub record ServedRun (G F : Type 0) : Type 0 where
   pub first : List Event
   pub old : Server G F
+  pub unasked : List Heard
+  pub begun : Server G F
+  pub asked : List Event
   pub turns : List Turn
   pub to : List Recipient
   pub mid : Server G F
@@ -188,9 +195,17 @@ pub record ServedRun (G F : Type 0) : Type 0 where
 abbrev pub heard_in_run : {G F : Type 0} → ServedRun G F → List Heard
 heard_in_run r = heard_in_turns r.turns ++ r.heard
 
+-- what was made of a datagram, but that it came
+abbrev pub made_of : Heard → List Event
+made_of h = h.events
+
 -- what happened by its turns and datagrams
+abbrev pub turned_of : {G F : Type 0} → ServedRun G F → List Event
+turned_of r = run_events r.to r.turns ++ flat_map heard_events r.heard
+
+-- what happened from the first opening to the last datagram
 abbrev pub work_of : {G F : Type 0} → ServedRun G F → List Event
-work_of r = run_events r.to r.turns ++ flat_map heard_events r.heard
+work_of r = flat_map made_of r.unasked ++ (r.asked ++ turned_of r)
 
 abbrev pub events_of : {G F : Type 0} → ServedRun G F → List Event
 events_of r = r.first ++ (work_of r ++ r.tail)
@@ -203,7 +218,7 @@ module _ {T P F K S L G : Type 0} (o : Outside T P F K S L) (facts : GamesFacts 
   at_place = facts.places place stamp
 
   -- A run at this place, behind what happened before it. Its server begins with no game open. Premise: the game that is found under the stamp
-  -- is this one; and before its turns, and when it stopped, nothing else happened to the game's record.
+  -- is this one; and before and between these, and when it stopped, nothing else happened to the game's record.
   pub record IsServedRun (past : List Event) (r : ServedRun G F) : Type 0 where
     pub there : facts.place r.old.games ≡ place
     pub closed : (other : List ℕ) → open_at r.old other ≡ None
@@ -211,21 +226,23 @@ module _ {T P F K S L G : Type 0} (o : Outside T P F K S L) (facts : GamesFacts 
     pub most : ℕ
     pub form : LineForm
     pub texts : List (List ℕ)
-    pub in_turns : InTurns o facts most form texts r.old r.turns r.mid
+    pub opens : HearsAll o facts r.old r.unasked r.begun
+    pub in_turns : InTurns o facts most form texts r.begun r.turns r.mid
     pub hears : HearsAll o facts r.mid r.heard r.new
     pub first_stays : StaysFound at_place stamp past r.first
+    pub asked_stays : StaysFound at_place stamp (behind (behind past r.first) (flat_map made_of r.unasked)) r.asked
     pub tail_stays : StaysFound at_place stamp (behind (behind past r.first) (work_of r)) r.tail
 
   abbrev pub AreServedRuns : List Event → List (ServedRun G F) → Type 0
   AreServedRuns past [] = Unit {0}
   AreServedRuns past (r ∷ rs) = IsServedRun past r × AreServedRuns (behind past (events_of r)) rs
 
-  -- the game's acts in a run, and that all that they told is in whatever a start may find behind these events
+  -- the game's acts in a run, each opening of which is over what was left; and all that they told is in whatever a start may find behind these
+  -- events
   pub record LastsBehind (past : List Event) (r : ServedRun G F) : Type 0 where
-    pub each : List (List (Action PlaceKeeper))
-    pub life : GameStatus PlaceKeeper
-    pub plays : PlaysAll facts place (common r.old) stamp Fresh (heard_in_run r) each life
-    pub lasts : (found : Option (List ℕ)) → MayFind at_place stamp past found → AllByRecursion (IsToldStill (found_keeper found)) (all_acts each)
+    pub game : OpenedGame facts place (common r.old) stamp r.unasked (game_at r.begun stamp) (heard_in_run r)
+    pub over : AreOverLeft Fresh (acts_in game)
+    pub lasts : (found : Option (List ℕ)) → MayFind at_place stamp past found → AllByRecursion (IsToldStill (found_keeper found)) (acts_in game)
 
 -- THE LAW: Where records are put at once and are durable, whatever a start may find of a game behind any runs, wherever each of them stopped, is
 -- a record in which all is that each answer told: as many moves as were acknowledged, the same ones, and the verdict at its ply. What was

@@ -2,3 +2,5 @@ pub mod PlaceKeepers
 pub mod ServedGames
 pub mod Lasting
 pub mod Durable
+pub mod Unasked
+pub mod OneGames

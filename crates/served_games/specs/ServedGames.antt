@@ -218,6 +218,20 @@ pub record ArePlayed {G : Type 0} (facts : GamesFacts G) (place : facts.Place) (
   pub on : GoesOn facts place t stamp old acts (flat_map (reply_for stamp) heard) (flat_map (made_for stamp) heard) new
   pub alone : acts_of stamp acts ≡ acts
 
+-- A game's acts at what was opened unasked, after which it is there, and then at what was heard.
+pub record OpenedGame {G : Type 0} (facts : GamesFacts G) (place : facts.Place) (t : CommonView) (stamp : List ℕ) (unasked : List Heard) (begun : Option (Moment DraftView)) (heard : List Heard) : Type 0 where
+  pub first : List (List (Action PlaceKeeper))
+  pub mid : GameStatus PlaceKeeper
+  pub opens : PlaysAll facts place t stamp Fresh unasked first mid
+  pub at : IsAt begun mid
+  pub each : List (List (Action PlaceKeeper))
+  pub life : GameStatus PlaceKeeper
+  pub plays : PlaysAll facts place t stamp mid heard each life
+
+-- all of them
+abbrev pub acts_in : {G : Type 0} {facts : GamesFacts G} {place : facts.Place} {t : CommonView} {stamp : List ℕ} {unasked : List Heard} {begun : Option (Moment DraftView)} {heard : List Heard} → OpenedGame facts place t stamp unasked begun heard → List (Action PlaceKeeper)
+acts_in p = all_acts p.first ++ all_acts p.each
+
 abbrev pub PlayedAreHosted : {G : Type 0} → GamesFacts G → Type 0
 PlayedAreHosted facts =
     (place : facts.Place) (t : CommonView) (stamp : List ℕ) (old new : GameStatus PlaceKeeper) (heard : List Heard) (each : List (List (Action PlaceKeeper)))

@@ -1,7 +1,10 @@
 //! Laws over the definitions of `game_server`.
 
+ghost use Rattle.game_folder.specs.FolderGames.{folder_games_facts};
+ghost use Rattle.game_folder.specs.OneGame.{one_game_facts};
 ghost use Rattle.served_games.specs.Durable.{GamesAreFound, KeepsAtOnce, RunsLast};
 ghost use Rattle.served_games.specs.Lasting.{EachLasts};
+ghost use Rattle.served_games.specs.OneGames.{OneGameKeepsWhatItTold};
 ghost use Rattle.served_games.specs.ServedGames.{GamesArePlayed, PlayedAreHosted};
 
 use game_folder::Games;
@@ -33,4 +36,33 @@ pub fn games_are_found<S: System, G: Games<S>>(_system: &S)
 /// in which all is that each answer told.
 pub fn runs_last<S: System, G: Games<S>>(_system: &S)
     ensures { KeepsAtOnce (G.facts _system.now) → RunsLast (S.outside _system.now) (G.facts _system.now) }
+{}
+
+/// Each record of a folder is put in its own file at once, and is found there.
+pub fn folder_games_keep_at_once()
+    ensures { KeepsAtOnce folder_games_facts }
+{}
+
+/// The record of one game is put in its file at once, and is found there; no other game is.
+pub fn one_game_keeps_at_once()
+    ensures { KeepsAtOnce one_game_facts }
+{}
+
+/// Of the games of a folder, where their files are durable, each opening of a game in a run is over what it left, and whatever a start may find
+/// behind any runs is a record in which all is that each answer told.
+pub fn folder_games_last<S: System>(_system: &S)
+    ensures found { GamesAreFound (S.outside _system.now) folder_games_facts }
+    ensures last { RunsLast (S.outside _system.now) folder_games_facts }
+{}
+
+/// So it is of one game, where its file is durable.
+pub fn one_game_lasts<S: System>(_system: &S)
+    ensures found { GamesAreFound (S.outside _system.now) one_game_facts }
+    ensures last { RunsLast (S.outside _system.now) one_game_facts }
+{}
+
+/// What one game told stays, over all runs of new servers of it, each of which opens it unasked, and wherever each of them stopped. The premises
+/// are in the statement (`specs/OneGames.antt`): the game has its stamp by the tables of its servers; and the file of its record is durable.
+pub fn one_game_keeps_what_it_told<S: System>(_system: &S)
+    ensures { OneGameKeepsWhatItTold (S.outside _system.now) }
 {}

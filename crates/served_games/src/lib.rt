@@ -9,19 +9,24 @@
 //!
 //! Inside: `laws`. In `proofs/`: `Carrying` (an answer over a draft as one over what is kept), `Opening`, `Going` (acts behind others),
 //! `Playing` (one datagram), `Running` (a run), `Telling` and `Lasting` (what was told, over acts and runs), `Finding` (what may be found behind
-//! acts), `Asides` (events that change nothing of it), `Following` (a run), `Enduring` (all runs).
+//! acts), `Asides` (events that change nothing of it), `Following` (a run), `Enduring` (all runs); `Stamping` (stamps are bytes, and paths of two
+//! differ), `AtOnce` (files), `OneGames`.
 //!
-//! Definitions, in reading order: `PlaceKeepers`, `ServedGames` (`GoesOn`, `PlaysAll`), `Lasting` (`WhatWasToldLasts`), `Durable` (`MayFind`,
-//! `IsDurable`, `KeepsAtOnce`, `RunsLast`).
+//! Definitions, in reading order: `PlaceKeepers`, `ServedGames` (`GoesOn`, `PlaysAll`, `OpenedGame`), `Lasting` (`WhatWasToldLasts`), `Durable`
+//! (`MayFind`, `IsDurable`, `KeepsAtOnce`, `RunsLast`), `Unasked` (`Begins`), `OneGames` (`OneGameKeepsWhatItTold`).
 //!
 //! - CLAIM: `laws::games_are_played`; `laws::played_are_hosted`: in a run each game has its own acts, from where it was to where it is; for each
 //!   datagram of the game they have its reply, and the events that were made for it. They go on from one another as those of a host, where each
 //!   opening is over what was left.
 //! - CLAIM: `laws::games_are_found`: where records are put at once and are durable, each opening is over what was left, and whatever a start may
 //!   find behind a run is what the game keeps or left.
+//! - CLAIM: `laws::folder_games_keep_at_once`, `one_game_keeps_at_once`: the games of a folder, and one game, put each record in its file at once;
+//!   so what is said of such records holds of both (`folder_games_last`, `one_game_lasts`).
 //! - CLAIM: `laws::what_was_told_lasts`; `laws::runs_last`: after any runs, wherever each of them stopped, whatever a start finds of a game is a
 //!   record in which all is that each answer told: as many moves as were acknowledged, the same ones, and the verdict at its ply. The first
 //!   says so of acts, over records in files and in stores; the second of events, where records are put at once.
+//! - CLAIM: `laws::one_game_keeps_what_it_told`: what one game told stays, over all runs of new servers of it, each of which opens it unasked,
+//!   and wherever each of them stopped, where the file of its record is durable.
 #![tactic(auto)]
 
 pub mod laws;

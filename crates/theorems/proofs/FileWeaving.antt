@@ -33,7 +33,7 @@ use Rattle.arbiter_server.proofs.FoundLaws.{IsSafe, safe_up}
 use Rattle.arbiter_server.proofs.OpenedLaws.{opened_safe}
 use Rattle.relay_world.specs.Worlds.{Judged, identity}
 use Rattle.theorems.specs.Nets.{FoundAnswered, FoundOpened, IsNoForgery, IsSetupOf, IsToBePut, SystemState, Site, changed, first_net, sent_with, site_of}
-use Rattle.theorems.specs.Interleavings.{AnswersDatagram, AtA, AtB, HostEvent, Does, Ends, Finds, GivesFor, GivesIf, GivesOwn, IsCutAtFirst, IsSiteCutAtPut, Step, Stops, Interleaving, closed_with, open_with}
+use Rattle.theorems.specs.Interleavings.{AnswersDatagram, AtA, AtB, HostEvent, Asks, Does, Ends, Finds, GivesFor, GivesIf, GivesOwn, IsCutAtFirst, IsSiteCutAtPut, Step, Stops, Interleaving, closed_with, open_with}
 use Rattle.theorems.specs.FileWeaves.{ActsAt, ActsIf, AnswersOver, AtFirst, AtPut, AtStart, Between, Both, DoesAt, EndsLeaving, FilesAreWoven, GoBoth, Held, IsFoundIn, OpensOverFile, Plays, Rests, first_both, sent_by_act, sent_for}
 use Rattle.theorems.proofs.Weaving.{is_one, still}
 
@@ -345,6 +345,7 @@ module _ (grow : PutsGrow) {F : Type 0} (facts : F → KeptFacts) (game : Judged
           let x = act_back old act new later safe is h found in
           record { found = x.0; is_found = x.1; gives = λ net at l. to true is net (x.2 net at l) }
       by false is h = record { found = later; is_found = found_before old new later h found; gives = λ net at l. to false is net (same_back old new later net h at) }
+  deed_back old Asks new later safe h found = absurd h
   deed_back old Ends new later safe h found =
       let x = ends_back old h.0 later safe h.1 (subst (λ (s : Held F). IsFoundIn facts s later) h.2 found) in
       record { found = x.0; is_found = x.1; gives = λ net at l. subst (λ (s : Held F). Stops game net who (changed net who (site_at s later) [])) (sym h.2) (x.2 net at l) }
@@ -379,6 +380,7 @@ module _ (grow : PutsGrow) {F : Type 0} (facts : F → KeptFacts) (game : Judged
       by : (b : Bool) → ActsIf b facts game who log old act new → Holds facts new
       by true h = act_holds old act new safe h
       by false h = subst (Holds facts) (sym h) safe
+  deed_holds old Asks new safe h = absurd h
   deed_holds old Ends new safe h = subst (Holds facts) (sym h.2) tt
 
 -- ---- both hosts

@@ -9,11 +9,12 @@ use Rattle.arbiter_core.specs.Delivers.{Exchange}
 use Rattle.arbiter_server.specs.Acts as act
 use Rattle.arbiter_server.specs.Acts.{Action, acts_of, game_of, is_stamp}
 use Rattle.arbiter_server.specs.Games.{AnswersTo, ClosesTo, CommonView, Fresh, Goes, GoesByAct, GameStatus, Open, Shut}
-use Rattle.relay_world.specs.Worlds.{Judged}
+use Rattle.arbiter_core.specs.Answering.{request_of}
+use Rattle.relay_world.specs.Worlds.{Judged, listed}
 use Rattle.theorems.specs.Nets as nets
 use Rattle.theorems.specs.Nets.{SystemState, Site, first_net, site_of}
 use Rattle.theorems.proofs.Netting.{arbiters_are_worlds, arbiters_tell_the_truth}
-use Rattle.theorems.specs.Interleavings.{AreWoven, AtA, AtB, HostEvent, Does, Ends, FrontsAreRuns, GivesFor, GivesIf, HostsAreWorlds, HostsTellTheTruth, IsHostOf, IsRunOfHost, IsSiteOfLife, StandsAt, Step, TellsTheTruth, Interleaving, deeds_a, deeds_b, first_run, last_among, last_run, later_runs}
+use Rattle.theorems.specs.Interleavings.{AreWoven, AtA, AtB, HostEvent, Asks, Does, Ends, FrontsAreRuns, GivesFor, GivesIf, HostsAreWorlds, HostsTellTheTruth, IsHostOf, IsRunOfHost, IsSiteOfLife, StandsAt, Step, TellsTheTruth, Interleaving, deeds_a, deeds_b, first_run, last_among, last_run, later_runs}
 use Rattle.theorems.proofs.Seeing.{Seen, seen_facts}
 use Rattle.theorems.proofs.Weaving.{Moves, NetGoes, act_goes}
 use Rattle.theorems.proofs.Stopping.{stop_goes}
@@ -110,6 +111,11 @@ module _ {K : Type 0} (s : Keepers K) (game : Judged) (who : ArbiterId) where
     deed_goes : (life end : GameStatus K) (deed : HostEvent K) (deeds : List (HostEvent K)) → IsSiteOfLife s.facts life (site_of old who) → GivesFor s.facts game old who deed new → DeedsGo life (deed ∷ deeds) end
         → (mid : GameStatus K) × GoesTo mid × DeedsGo mid deeds end
     deed_goes life end (Does a) deeds here g r = does life end a (first_run deeds) (later_runs deeds) here g r
+    deed_goes life end Asks deeds here g r = (
+      life,
+      record { acts = nets.AsksOne who g.0 ∷ []; goes = (new, g.1, refl); there = site_of old who; outputs = listed (request_of g.0.me g.0.kept); is = g.1.net; at = here },
+      r,
+    )
     deed_goes life end Ends deeds here g r = (Fresh, stop_goes s.facts game who old new life here g, r.1)
 
   none_left : (life end : GameStatus K) → RunGoes life [] end → end ≡ life

@@ -10,3 +10,4 @@ pub mod FileWeaving
 pub mod Storing
 pub mod StoreKeeping
 pub mod StoreWeaving
+pub mod Serving

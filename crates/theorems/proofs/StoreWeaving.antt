@@ -24,7 +24,7 @@ use Rattle.theorems.specs.HostFiles.{IfAnswers, IsOfSetup}
 use Rattle.theorems.specs.Nets.{FoundAnswered, IsNoForgery, IsSetupOf, SystemState, Site, changed, first_net, sent_with, site_of}
 use Rattle.theorems.specs.StoreHosts.{AtCommit, AtStart, BeginsOver, FindsAtStop, FoundAt, StoreRanOver, StoreRun, StoreRunsInTurn}
 use Rattle.theorems.specs.StoreWeaves.{AreFoundFronts, AreWovenInAnyOrder, FoundFronts, FrontsAreFound, NoneIsForged, HearsNoForgery, IsFoundFront, MayFind, StoreHost, StoresAreWoven, kept_at, log_after, runs_in}
-use Rattle.theorems.specs.Interleavings.{AnswersDatagram, AreRunsOf, AtA, AtB, HostEvent, Does, Ends, GivesFor, GivesIf, GivesOwn, IsHostOf, IsRunOfHost, Step, Interleaving, closed_with, deeds_a, deeds_b, first_run, later_runs, open_with}
+use Rattle.theorems.specs.Interleavings.{AnswersDatagram, AreRunsOf, AtA, AtB, HostEvent, Asks, Does, Ends, GivesFor, GivesIf, GivesOwn, IsHostOf, IsRunOfHost, Step, Interleaving, closed_with, deeds_a, deeds_b, first_run, later_runs, open_with}
 use Rattle.theorems.proofs.StoreKeeping.{all_front, begins_front, own_parts}
 use Rattle.theorems.proofs.Weaving.{still}
 
@@ -366,6 +366,7 @@ module _ (disk : DiskFacts) (folder : List ℕ) (game : Judged) (who : ArbiterId
   deed_done old was life (Does a) deeds found at x came =
       let d = does_so old was life a (first_run deeds) (later_runs deeds) found at x came in
       record { was = d.was; life = d.life; ahead = d.ahead; gives = d.gives }
+  deed_done old was life Asks deeds found at x came = absurd came
   deed_done old was life Ends deeds found at x came = record {
     was = x.0;
     life = Fresh;

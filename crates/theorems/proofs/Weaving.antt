@@ -105,13 +105,13 @@ module _ (game : Judged) (who : ArbiterId) (t : CommonView) (of : IsHostOf game 
     };
   }
 
-  is_good : setup.delay ≤ most_delay → IsGood setup
+  pub is_good : setup.delay ≤ most_delay → IsGood setup
   is_good few = record { name = is.game.is_name; me = one_or_two who setup.me number; delay = few }
 
 -- ---- what an opening tells
 
 module _ {K : Type 0} (facts : KeeperFacts K) (setup : SetupView) (me : Identity) (before now : K) (v : View) where
-  no_fault : (fault : OpenFault) → ◌≡◌ {A = opening.OpenResult} (Ok v) (Err fault) → ⊥
+  pub no_fault : (fault : OpenFault) → ◌≡◌ {A = opening.OpenResult} (Ok v) (Err fault) → ⊥
   no_fault fault e = cc
 
   up_over : (was : Option (List ℕ)) → OpensOver facts setup me was before now (Ok v) → v.is_down ≡ false
@@ -127,7 +127,7 @@ module _ {K : Type 0} (facts : KeeperFacts K) (setup : SetupView) (me : Identity
   up_over (Some bytes) q = ap (λ (x : View). x.is_down) q.1.0
 
   -- an arbiter that is opened runs
-  is_up : Opens facts setup me before now (Ok v) → v.is_down ≡ false
+  pub is_up : Opens facts setup me before now (Ok v) → v.is_down ≡ false
   is_up (inl g) = absurd (no_fault open_fault.KeeperFailed g.answer)
   is_up (inr (inl n)) = absurd (no_fault open_fault.OutOfMemory n.answer)
   is_up (inr (inr o)) = up_over (facts.kept before) o

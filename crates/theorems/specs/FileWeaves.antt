@@ -25,7 +25,7 @@ use Rattle.arbiter_server.specs.Lives.{IsCutAtPut}
 use Rattle.arbiter_server.specs.StoredBytes.{StartsOver, keeper_file, keeper_over, stored}
 use Rattle.relay_world.specs.Worlds.{Judged}
 use Rattle.theorems.specs.Nets.{IsNoForgery, IsSetupOf, SystemState, sent_with}
-use Rattle.theorems.specs.Interleavings.{AreRunsOf, AreWoven, AtA, AtB, HostEvent, Does, Ends, Step, deeds_a, deeds_b}
+use Rattle.theorems.specs.Interleavings.{AreRunsOf, AreWoven, AtA, AtB, HostEvent, Asks, Does, Ends, Step, deeds_a, deeds_b}
 
 -- ---- where a game is at a host
 
@@ -97,8 +97,10 @@ abbrev pub ActsIf : {F : Type 0} → Bool → (F → KeptFacts) → Judged → A
 ActsIf true facts game who log old act new = ActsAt facts game who log old act new
 ActsIf false facts game who log old act new = new ≡ old
 
+-- such a host never asks
 abbrev pub DoesAt : {F : Type 0} → (F → KeptFacts) → Judged → ArbiterId → List Message → Held F → HostEvent (FileKeeper F) → Held F → Type 0
 DoesAt facts game who log old (Does act) new = ActsIf (is_stamp game.stamp (game_of act)) facts game who log old act new
+DoesAt {F} facts game who log old Asks new = ⊥
 DoesAt {F} facts game who log old Ends new = (left : F) × EndsLeaving facts game who log old left × (new ≡ Rests left)
 
 -- ---- both hosts
@@ -114,6 +116,7 @@ sent_by_act (Closes stamp left) = []
 
 abbrev pub sent_for : {K : Type 0} → Judged → HostEvent K → List Message
 sent_for game (Does act) = cond (is_stamp game.stamp (game_of act)) (sent_by_act act) []
+sent_for game Asks = []
 sent_for game Ends = []
 
 -- both, and every message that was ever sent

@@ -33,7 +33,7 @@ use Rattle.arbiter_server.specs.Games.{CommonView, Fresh, Goes, GameStatus, Open
 use Rattle.arbiter_server.specs.Hosts.{IsHosted}
 use Rattle.relay_world.specs.Worlds.{Judged}
 use Rattle.relay_world.specs.Headline.{IsFrontOf}
-use Rattle.theorems.specs.Nets.{FoundAnswered, FoundOpened, IsNoForgery, IsOfWorld, IsSetupOf, IsToBePut, SystemState, Site, arbiter_in, changed, first_net, sent_with, site_of}
+use Rattle.theorems.specs.Nets.{Asking, FoundAnswered, FoundOpened, IsNoForgery, IsOfWorld, IsSetupOf, IsToBePut, SystemState, Site, arbiter_in, changed, first_net, sent_with, site_of}
 
 -- ---- what happens, in the order of time
 
@@ -41,6 +41,8 @@ use Rattle.theorems.specs.Nets.{FoundAnswered, FoundOpened, IsNoForgery, IsOfWor
 pub data HostEvent (K : Type 0) : Type 0 where
   -- an act, of any game
   Does : (act : Action K) → HostEvent K
+  -- the arbiter of the game, which is open, requests moves of the other, as one that opens it unasked may do
+  Asks : HostEvent K
   -- its run ends, by itself or because its process is stopped; the next run begins with no game open
   Ends : HostEvent K
 
@@ -64,11 +66,13 @@ deeds_b (AtB deed ∷ steps) = deed ∷ deeds_b steps
 abbrev pub first_run : {K : Type 0} → List (HostEvent K) → List (Action K)
 first_run [] = []
 first_run (Does act ∷ deeds) = act ∷ first_run deeds
+first_run (Asks ∷ deeds) = first_run deeds
 first_run (Ends ∷ deeds) = []
 
 abbrev pub later_runs : {K : Type 0} → List (HostEvent K) → List (List (Action K))
 later_runs [] = []
 later_runs (Does act ∷ deeds) = later_runs deeds
+later_runs (Asks ∷ deeds) = later_runs deeds
 later_runs (Ends ∷ deeds) = first_run deeds ∷ later_runs deeds
 
 abbrev pub last_among : {K : Type 0} → List (Action K) → List (List (Action K)) → List (Action K)
@@ -177,6 +181,7 @@ GivesIf false facts game old who act new = new ≡ old
 -- one deed: what the outside gives for it, and where it leads
 abbrev pub GivesFor : {K : Type 0} → KeeperFacts K → Judged → SystemState → ArbiterId → HostEvent K → SystemState → Type 0
 GivesFor facts game old who (Does act) new = GivesIf (is_stamp game.stamp (game_of act)) facts game old who act new
+GivesFor facts game old who Asks new = (v : View) × Asking old who v new
 GivesFor facts game old who Ends new = Stops game old who new
 
 -- all steps in turn

@@ -9,3 +9,4 @@ pub mod FileWeaves
 pub mod Recording
 pub mod StoreHosts
 pub mod StoreWeaves
+pub mod Served

@@ -1,5 +1,5 @@
 -- A run of `listen` as one of a host that has one game (this project's own): so two runs of `listen`, and one beside a host, come under the
--- theorem of two hosts. A run that asks for moves first (`--fetch`) isn't one: a host never asks.
+-- theorem of two hosts. A run that asks for moves first (`--fetch`) isn't one of these; of a server of games it is (`Served.antt`).
 use Rattle.std.specs.Prelude.{◌≡◌, ℕ, false, List, [], ◌∷◌, ◌++◌, map, cond, Result, Ok, Err}
 use Rattle.std.specs.List.{AllByRecursion, flat_map}
 use Rattle.std.specs.Str.{bytes_eq}

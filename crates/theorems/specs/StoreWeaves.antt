@@ -24,7 +24,7 @@ use Rattle.theorems.specs.FileWeaves.{sent_for}
 use Rattle.theorems.specs.HostFiles.{IfAnswers}
 use Rattle.theorems.specs.Nets.{IsNoForgery, IsSetupOf, SystemState, first_net}
 use Rattle.theorems.specs.StoreHosts.{BeginsOver, StoreRun, StoreRunsInTurn}
-use Rattle.theorems.specs.Interleavings.{AreWoven, AtA, AtB, HostEvent, Does, Ends, Step, deeds_a, deeds_b, first_run, later_runs}
+use Rattle.theorems.specs.Interleavings.{AreWoven, AtA, AtB, HostEvent, Asks, Does, Ends, Step, deeds_a, deeds_b, first_run, later_runs}
 
 -- ---- which acts happened
 
@@ -96,9 +96,10 @@ abbrev pub runs_in : {K : Type 0} → List (HostEvent K) → List (List (Action 
 runs_in deeds = first_run deeds ∷ later_runs deeds
 
 -- premise (the network, whoever has the keys): a move or a request of the game came only if it was sent before, by the source or by one of
--- the two. Among what was sent here is each answer that went out by then, and some that were lost.
+-- the two. Among what was sent here is each answer that went out by then, and some that were lost. Such a host never asks.
 abbrev pub HearsNoForgery : {K : Type 0} → Judged → List Message → HostEvent K → Type 0
 HearsNoForgery game log (Does act) = IfAnswers (λ e. IsNoForgery game log e.datagram) act
+HearsNoForgery game log Asks = ⊥
 HearsNoForgery game log Ends = Unit {0}
 
 abbrev pub NoneIsForged : {K L : Type 0} → Judged → List Message → List (Step K L) → Type 0

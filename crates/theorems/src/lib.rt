@@ -12,13 +12,13 @@
 //! of a stopped run go on as those of one that returns (`goes` of `IsRunOfHost`); that a closing, an act of another game and a datagram
 //! without a keeper leave what is found (`GivesOwn`, `GivesIf`).
 //!
-//! Inside: `arbiters`, `hosts`, `listens`, `host_files`, `store_hosts`, `after_stops`, `sources`, `seals`; `recording` has a host that
+//! Inside: `arbiters`, `hosts`, `listens`, `served`, `host_files`, `store_hosts`, `after_stops`, `sources`, `seals`; `recording` has a host that
 //! records what is made at it (`Recording`): so the clauses of `Host` on histories are those of one. In `proofs/`: `Netting`
 //! (arbiters), `Seeing` (keepers of any type, seen as what they keep), `Weaving` (an act of a host as steps of an arbiter),
 //! `Stopping`, `Joining`, `Acking`, `Filing` and `FileWeaving` (hosts over files), `Storing`, `StoreKeeping` and `StoreWeaving`
-//! (hosts over stores), `Listening`.
+//! (hosts over stores), `Listening`, `Serving` (servers of games over one timeline).
 //!
-//! Definitions, in reading order: `Nets`, `Interleavings`, `Listens`, `HostFiles`, `AfterStops`, `FileWeaves`, `StoreHosts`,
+//! Definitions, in reading order: `Nets`, `Interleavings`, `Listens`, `Served`, `HostFiles`, `AfterStops`, `FileWeaves`, `StoreHosts`,
 //! `StoreWeaves`, `Sources`, `Seals`, `Recording`. A law has no case of its own; `stopping_tests` of `checks_games` runs `run_after`,
 //! and `tools/host_games` plays games between two hosts.
 //!
@@ -32,6 +32,10 @@
 //! - CLAIM: `listens_are_hosted`: a run of `listen` that opens its arbiter and doesn't ask for moves first goes on as one of a host that
 //!   has one game, by its acts and by what passes for each datagram, but that it opens the game unasked. `listens_are_worlds`;
 //!   `listen_beside_a_host`: so two of them, and one on either side of a host, come to a world.
+//! - CLAIM: `served_are_hosted`: what a run of a server of games (`game_server`) does of a game is what a run of a host does, where each opening is
+//!   over what was left; so of one that has opened the game unasked, and may have asked for moves, but for the answer by which it was
+//!   opened, which nobody gets. `served_files_are_hosted`: over files that are durable each opening is so, wherever the run stopped.
+//!   `served_are_worlds`; `served_beside_a_host`: so two of them, and one on either side of a host, come to a world.
 //! - CLAIM: `host_keeps_what_it_told`: what a host told of a game is found at each later start over the file of its record: as many
 //!   moves as it acknowledged, the same ones, and a verdict at its ply. This holds over any files, after any runs, wherever each
 //!   stopped.
@@ -62,6 +66,7 @@ mod hosts;
 mod listens;
 mod recording;
 mod seals;
+mod served;
 mod sources;
 mod store_hosts;
 
@@ -72,6 +77,9 @@ pub use hosts::{acks_are_found, fronts_are_runs, hosts_are_worlds, hosts_tell_th
 pub use listens::{listen_beside_a_host, listens_are_hosted, listens_are_worlds};
 pub use recording::{MadeAt, Recorded, Recording};
 pub use seals::no_tag_no_forgery;
+pub use served::{
+    served_are_hosted, served_are_worlds, served_beside_a_host, served_files_are_hosted,
+};
 pub use sources::{sends_the_log, sources_tell_the_truth};
 pub use store_hosts::{
     answers_are_found, fronts_are_found, hosts_over_stores, store_keeps_what_it_told,

@@ -1,0 +1,38 @@
+//! Runs of a server of games over one timeline, as those of hosts.
+
+ghost use Rattle.arbiter_server.specs.Folders.{keepers};
+ghost use Rattle.game_folder.specs.FolderGames.{folder_games_facts};
+ghost use Rattle.game_folder.specs.OneGame.{one_game_facts};
+ghost use Rattle.theorems.specs.Served.{ServedAreHosted, ServedAreWorlds, ServedBesideHost, ServedRunsAreHosted};
+
+use timeline::System;
+
+/// What a run of a server does of a game is what a run of a host does, where each opening is over what was left: so of a server that begins
+/// with no game open, and of one that has opened a game unasked, whether or not it requests moves then.
+pub fn served_are_hosted<S: System, G: game_folder::Games<S>>(_system: &S)
+    ensures { ServedAreHosted (S.outside _system.now) (G.facts _system.now) }
+{}
+
+/// Over files, where these are durable, each opening is over what was left: so each run of a server, wherever it stopped, is one of a host. This
+/// holds of the games of a folder and of one game.
+pub fn served_files_are_hosted<S: System>(_system: &S)
+    ensures folder { ServedRunsAreHosted (S.outside _system.now) folder_games_facts }
+    ensures one { ServedRunsAreHosted (S.outside _system.now) one_game_facts }
+{}
+
+/// Two servers of one game, each over places of its own, come to what a schedule comes to, in whichever order their acts come and however often
+/// each of them is stopped and run again. What they acknowledged is found, and what they tell is true.
+pub fn served_are_worlds<S: System, R: System, G: game_folder::Games<S>, H: game_folder::Games<R>>(
+    _system: &S,
+    _other: &R,
+)
+    ensures { ServedAreWorlds (G.facts _system.now) (H.facts _other.now) }
+{}
+
+/// So do a server and a host that have one game, whichever of the two arbiters the server is.
+pub fn served_beside_a_host<S: System, G: game_folder::Games<S>, H: arbiter_server::Games>(
+    _system: &S,
+    _host: &H,
+)
+    ensures { (host : H) → ServedBesideHost (G.facts _system.now) (keepers H.Keeper.facts H.facts host) }
+{}
