@@ -504,12 +504,20 @@ fn system_of<'a>(
     }
 }
 
-/// The first game's record before a run.
+/// The record of the game at a place before a run.
 fn record_before(rt: &impl Abort, alloc: Global, before: Option<u8>, place: u8) -> Option<Vec<u8>> {
     match before {
         Some(count) => Some(record_at(rt, alloc, place, count as usize)),
         None => None,
     }
+}
+
+fn records_before(rt: &impl Abort, alloc: Global, before: Option<u8>) -> [Option<Vec<u8>>; 3] {
+    [
+        record_before(rt, alloc, before, 0),
+        record_before(rt, alloc, before, 1),
+        record_before(rt, alloc, before, 2),
+    ]
 }
 
 fn bytes_in(got: &Option<Vec<u8>>) -> Option<&[u8]> {
@@ -519,29 +527,43 @@ fn bytes_in(got: &Option<Vec<u8>>) -> Option<&[u8]> {
     }
 }
 
-/// A run of a row: its lines, its end, and all that happens.
-fn check_over(rt: &impl Abort, alloc: Global, case: Case<'_>, turns: &[Turn<'_>]) {
-    let shelf = case.shelf;
-    let row = case.row;
-    let files = [
+/// The files that tell the games.
+fn files_of<'a>(shelf: &'a Shelf) -> [AtPath<'a, &'a [u8]>; 3] {
+    [
         at_path(&shelf.told[0], shelf.texts[0].as_slice()),
         at_path(&shelf.told[1], shelf.texts[1].as_slice()),
         at_path(&shelf.told[2], shelf.texts[2].as_slice()),
-    ];
-    let first = record_before(rt, alloc, row.before, 0);
-    let second = record_before(rt, alloc, row.before, 1);
-    let third = record_before(rt, alloc, row.before, 2);
-    let kept = [
-        at_path(&shelf.kept[0], kept_start(bytes_in(&first), row.outcomes)),
-        at_path(&shelf.kept[1], kept_start(bytes_in(&second), &[])),
-        at_path(&shelf.kept[2], kept_start(bytes_in(&third), &[])),
-    ];
-    let system = system_of(&files, &kept, turns);
+    ]
+}
+
+/// Their records, with what comes of the calls for the first one.
+fn kept_of<'a>(
+    shelf: &'a Shelf,
+    records: &'a [Option<Vec<u8>>; 3],
+    outcomes: &'a [Outcome],
+) -> [AtPath<'a, KeptStart<'a>>; 3] {
+    [
+        at_path(&shelf.kept[0], kept_start(bytes_in(&records[0]), outcomes)),
+        at_path(&shelf.kept[1], kept_start(bytes_in(&records[1]), &[])),
+        at_path(&shelf.kept[2], kept_start(bytes_in(&records[2]), &[])),
+    ]
+}
+
+/// A run of a row over a system: its lines, its end, and all that happens.
+fn check_system<'a>(rt: &impl Abort, alloc: Global, case: Case<'_>, system: &MemorySystem<'a>) {
+    let row = case.row;
     let mut timeline = MemoryTimeline::new(alloc, row.fails_at);
-    let status = ended(rt, alloc, &system, &mut timeline, case);
-    check_events(rt, alloc, shelf, &timeline, row.happens);
-    check_lines(rt, alloc, shelf, &timeline, row.lines);
+    let status = ended(rt, alloc, system, &mut timeline, case);
+    check_events(rt, alloc, case.shelf, &timeline, row.happens);
+    check_lines(rt, alloc, case.shelf, &timeline, row.lines);
     check_same(rt, status, row.status, row.words);
+}
+
+fn check_over(rt: &impl Abort, alloc: Global, case: Case<'_>, turns: &[Turn<'_>]) {
+    let files = files_of(case.shelf);
+    let records = records_before(rt, alloc, case.row.before);
+    let kept = kept_of(case.shelf, &records, case.row.outcomes);
+    check_system(rt, alloc, case, &system_of(&files, &kept, turns));
 }
 
 fn check_row(rt: &impl Abort, alloc: Global, case: Case<'_>) {
@@ -977,15 +999,24 @@ fn opened(
     is_open
 }
 
-fn check_unasked(rt: &impl Abort, alloc: Global, shelf: &Shelf, row: &Unasked) {
-    let files = [at_path(&shelf.told[0], shelf.texts[0].as_slice())];
-    let first = record_before(rt, alloc, row.before, 0);
-    let kept = [at_path(&shelf.kept[0], kept_start(bytes_in(&first), row.outcomes))];
-    let system = system_of(&files, &kept, &[]);
+fn check_opened(
+    rt: &impl Abort,
+    alloc: Global,
+    shelf: &Shelf,
+    row: &Unasked,
+    system: &MemorySystem<'_>,
+) {
     let mut timeline = MemoryTimeline::new(alloc, None);
-    let is_open = opened(rt, alloc, &system, &mut timeline, row.place);
+    let is_open = opened(rt, alloc, system, &mut timeline, row.place);
     check_events(rt, alloc, shelf, &timeline, row.happens);
     check_same(rt, is_open, row.is_open, row.happens);
+}
+
+fn check_unasked(rt: &impl Abort, alloc: Global, shelf: &Shelf, row: &Unasked) {
+    let files = files_of(shelf);
+    let records = records_before(rt, alloc, row.before);
+    let kept = kept_of(shelf, &records, row.outcomes);
+    check_opened(rt, alloc, shelf, row, &system_of(&files, &kept, &[]));
 }
 
 #[test]
