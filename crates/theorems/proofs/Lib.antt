@@ -11,3 +11,4 @@ pub mod Storing
 pub mod StoreKeeping
 pub mod StoreWeaving
 pub mod Serving
+pub mod ServedWeaving

@@ -145,7 +145,7 @@ module _ {G : Type 0} (facts : GamesFacts G) (place : facts.Place) (t : CommonVi
   abbrev Ks : Keepers PlaceKeeper
   Ks = place_keepers facts place
 
-  opens_up : (old new : Life) (o : Opening PlaceKeeper) (v : View) → OpensTo Ks t game.stamp old o (Ok v) new → v.is_down ≡ false
+  pub opens_up : (old new : Life) (o : Opening PlaceKeeper) (v : View) → OpensTo Ks t game.stamp old o (Ok v) new → v.is_down ≡ false
   opens_up old new o v h = by (cases_lt most_delay o.setup.delay)
     where
       by : (most_delay < o.setup.delay) ⊎ (o.setup.delay ≤ most_delay) → v.is_down ≡ false

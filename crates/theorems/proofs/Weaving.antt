@@ -96,7 +96,7 @@ module _ (game : Judged) (who : ArbiterId) (t : CommonView) (of : IsHostOf game 
   manifest : t.manifest ≡ setup.manifest
   manifest = sym (ap (λ (x : SetupView). x.manifest) is.common)
 
-  is_setup : setup.start ≡ game.rules.start → setup.delay ≡ game.rules.delay → nets.IsSetupOf game who setup
+  pub is_setup : setup.start ≡ game.rules.start → setup.delay ≡ game.rules.delay → nets.IsSetupOf game who setup
   is_setup start delay = record {
     rules = made_rules setup.start game.rules.start setup.set.tables game.rules.tables setup.delay game.rules.delay start (ap (λ (x : SetupView). x.set.tables) is.common ∙ of.tables) delay;
     identity = record {

@@ -10,3 +10,4 @@ pub mod Recording
 pub mod StoreHosts
 pub mod StoreWeaves
 pub mod Served
+pub mod ServedWeaves

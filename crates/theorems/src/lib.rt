@@ -16,9 +16,9 @@
 //! records what is made at it (`Recording`): so the clauses of `Host` on histories are those of one. In `proofs/`: `Netting`
 //! (arbiters), `Seeing` (keepers of any type, seen as what they keep), `Weaving` (an act of a host as steps of an arbiter),
 //! `Stopping`, `Joining`, `Acking`, `Filing` and `FileWeaving` (hosts over files), `Storing`, `StoreKeeping` and `StoreWeaving`
-//! (hosts over stores), `Listening`, `Serving` (servers of games over one timeline).
+//! (hosts over stores), `Listening`, `Serving` and `ServedWeaving` (servers of games over one timeline).
 //!
-//! Definitions, in reading order: `Nets`, `Interleavings`, `Listens`, `Served`, `HostFiles`, `AfterStops`, `FileWeaves`, `StoreHosts`,
+//! Definitions, in reading order: `Nets`, `Interleavings`, `Listens`, `Served`, `ServedWeaves`, `HostFiles`, `AfterStops`, `FileWeaves`, `StoreHosts`,
 //! `StoreWeaves`, `Sources`, `Seals`, `Recording`. A law has no case of its own; `stopping_tests` of `checks_games` runs `run_after`,
 //! and `tools/host_games` plays games between two hosts.
 //!
@@ -36,6 +36,8 @@
 //!   over what was left; so of one that has opened the game unasked, and may have asked for moves, but for the answer by which it was
 //!   opened, which nobody gets. `served_game_is_hosted`: over the file of one game, where it is durable, each opening is so, wherever the run stopped.
 //!   `served_are_worlds`; `served_beside_a_host`: so two of them, and one on either side of a host, come to a world.
+//! - CLAIM: `served_are_woven`: two servers, each over files, come to a net as `hosts_are_worlds` asks, by where each opening begins: that
+//!   keepers keep, and what a closing leaves, are no premises.
 //! - CLAIM: `host_keeps_what_it_told`: what a host told of a game is found at each later start over the file of its record: as many
 //!   moves as it acknowledged, the same ones, and a verdict at its ply. This holds over any files, after any runs, wherever each
 //!   stopped.
@@ -78,7 +80,8 @@ pub use listens::{listen_beside_a_host, listens_are_hosted, listens_are_worlds};
 pub use recording::{MadeAt, Recorded, Recording};
 pub use seals::no_tag_no_forgery;
 pub use served::{
-    served_are_hosted, served_are_worlds, served_beside_a_host, served_game_is_hosted,
+    served_are_hosted, served_are_worlds, served_are_woven, served_beside_a_host,
+    served_game_is_hosted,
 };
 pub use sources::{sends_the_log, sources_tell_the_truth};
 pub use store_hosts::{

@@ -2,6 +2,7 @@
 
 ghost use Rattle.arbiter_server.specs.Folders.{keepers};
 ghost use Rattle.game_folder.specs.OneGame.{one_game_facts};
+ghost use Rattle.theorems.specs.ServedWeaves.{ServedAreWoven};
 ghost use Rattle.theorems.specs.Served.{ServedAreHosted, ServedAreWorlds, ServedBesideHost, ServedFrontsAreHosted, ServedRunsAreHosted};
 
 use timeline::System;
@@ -34,4 +35,16 @@ pub fn served_beside_a_host<S: System, G: game_folder::Games<S>, H: arbiter_serv
     _host: &H,
 )
     ensures { (host : H) → ServedBesideHost (G.facts _system.now) (keepers H.Keeper.facts H.facts host) }
+{}
+
+/// Two servers of one game, each over files, come to a net as `served_are_worlds` asks, by where each opening begins: that keepers keep, and what
+/// a closing leaves, are no premises then. So whatever a start may find over each is what a world of the game keeps.
+///
+/// The premises stand in `specs/ServedWeaves.antt`: nothing stands in the two files at first; each opening is over what was left, in its run and
+/// over all runs; and no move or request of the game is made up.
+pub fn served_are_woven<S: System, R: System, G: game_folder::Games<S>, H: game_folder::Games<R>>(
+    _system: &S,
+    _other: &R,
+)
+    ensures { ServedAreWoven (G.facts _system.now) (H.facts _other.now) }
 {}
