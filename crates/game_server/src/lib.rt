@@ -11,9 +11,8 @@
 //! is opened unasked); `laws`.
 //!
 //! Definitions, in reading order: `Seats`, `Fates` (`OpensFor`, `GoesTo`), `Backed` (`IsBacked`), `Replies`, `Datagrams` (`HearsDatagram`),
-//! `Sending`, `Printing`
-//! (`written_text`, `WritesLines`), `Rounds` (`round_events`, `IsRound`), `Runs` (`InTurns`, `Serves`), `Starting`, `Orders` (`AcksAreEarned`);
-//! for private clauses `Seating`, `Running`.
+//! `Sending`, `Printing` (`written_text`, `WritesLines`), `Rounds` (`round_events`, `IsRound`), `Runs` (`InTurns`, `Serves`), `Starting`,
+//! `Orders` (`AcksAreEarned`); for private clauses `Seating`, `Running`.
 //!
 //! - CLAIM: `serve`, clause `run`: all that happens outside are turns. In each, datagrams come, and each is answered by one delivery of the
 //!   arbiter of the game that it names, which is opened where it isn't open, or by a refusal alone; then what was noted is committed; then
@@ -21,7 +20,8 @@
 //!   then a line for each datagram goes out, as the log has it. Where the commit fails nothing is sent. Nothing is received behind a lost
 //!   line. The status is 0 only where all datagrams came, and 1 only where the port is lost or a commit failed.
 //! - CLAIM: `serve`, clause `earned`; `laws::acks_are_earned`: where what open games keep is known, each acknowledgement of so many moves comes
-//!   after a record of this game with at least so many was put or committed where its record is kept, or found there; each verdict comes after a record with it.
+//!   after a record of this game with at least so many was put or committed where its record is kept, or found there; each verdict comes
+//!   after a record with it.
 //! - CLAIM: `hear`, clause `made`: nothing is sent. The datagram has one of the fates of `GoesTo`, and the reply is of that. A record that
 //!   can't be kept is not announced, and its game alone is refused; another game is as it was, or closed.
 //! - CLAIM: `hear`, clause `made`: what the messages of the reply say (`backed`) of a record was put, committed or found where that game's
