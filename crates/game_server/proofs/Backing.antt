@@ -17,9 +17,9 @@ use Rattle.move_msg.specs.declared.stamp.Stamp.{Stamp}
 use Rattle.system_io.specs.Recipients.{address_named}
 use Rattle.system_io.specs.declared.recipient.Recipient.{Recipient}
 use Rattle.timeline.specs.Events.{Event, Committed, Found, Put, RecordSought, Sent, sent_to, sent_to_each}
-use Rattle.game_server.specs.Orders.{EachEarned, HasMoves, HasVerdict, IsBacked, IsEarned, IsThere}
+use Rattle.game_server.specs.Backed.{EachEarned, HasMoves, HasVerdict, IsBacked, IsEarned}
 use Rattle.game_folder.specs.Places.{Held, InFile, InStore, KeptAt, Places, WasKept, WasPut, kept_by}
-use Rattle.game_server.specs.Turns.{Address, IsRequestSpelled, LineEnd, WasCut, WasStuck, WentOut, line_events, message_sent, request, request_sent, sent}
+use Rattle.game_server.specs.Sending.{Address, IsRequestSpelled, message_sent, request, request_sent, sent}
 use Rattle.game_server.proofs.Saying.{AllSay, Says}
 
 -- ---- what came before stays
@@ -37,19 +37,9 @@ was_kept_later (InStore path) before more stamp bytes h = elim h [
   | inr found ↦ inr (Contains-append_left before more (RecordSought path stamp (Some bytes)) found)
 ]
 
-pub there_later : (path : List ℕ) (before more : List Event) (kept : Option (List ℕ)) → IsThere path before kept → IsThere path (before ++ more) kept
-there_later path before more kept h = (h.0, h.1, was_put_later path before more h.0 h.2)
-
 pub each_join : (places : Places) (before xs ys : List Event) → EachEarned places before xs → EachEarned places (before ++ xs) ys → EachEarned places before (xs ++ ys)
 each_join places before [] ys p q = subst (λ (b : List Event). EachEarned places b ys) (append-nil before) q
 each_join places before (e ∷ es) ys p q = (p.0, each_join places (before ++ e ∷ []) es ys p.1 (subst (λ (b : List Event). EachEarned places b ys) (sym (append_assoc before (e ∷ []) es)) q))
-
--- ---- what sends nothing
-
-pub line_earned : (places : Places) (before : List Event) (line : List ℕ) (end : LineEnd) → EachEarned places before (line_events line end)
-line_earned places before line WentOut = ((λ to bytes m e s. absurd cc), ((λ to bytes m e s. absurd cc), tt))
-line_earned places before line (WasCut count) = ((λ to bytes m e s. absurd cc), ((λ to bytes m e s. absurd cc), tt))
-line_earned places before line WasStuck = ((λ to bytes m e s. absurd cc), ((λ to bytes m e s. absurd cc), tt))
 
 -- ---- messages
 
@@ -111,9 +101,8 @@ sent_earned places before stamp r to (m ∷ ms) held says spells =
     (sent_earned places (before ++ first) stamp r to ms (held_later places before first stamp r held) says.1 spells.1)
 
 -- a request says nothing of a record
-request_backed : (places : Places) (before : List Event) (fetch : Bool) (v : View) (m : Message) → request fetch v ≡ Some m → IsBacked (kept_by places before) m
-request_backed places before false v m is = absurd cc
-request_backed places before true v m is = by_state v.is_down is
+request_backed : (places : Places) (before : List Event) (v : View) (m : Message) → request v ≡ Some m → IsBacked (kept_by places before) m
+request_backed places before v m is = by_state v.is_down is
   where
     by_may : (may : Bool) → cond may None (Some (Fetch v.me.stamp v.me.who (move_count v.kept) most_wanted)) ≡ Some m → IsBacked (kept_by places before) m
     by_may true e = absurd cc
@@ -127,5 +116,5 @@ if_requested : (places : Places) (before : List Event) (to : Address) (k : Optio
 if_requested places before to None back spells = tt
 if_requested places before to (Some m) back spells = each_to_each places m spells before to.sender to.to (back m refl)
 
-pub request_earned : (places : Places) (before : List Event) (fetch : Bool) (to : Address) (v : View) → IsRequestSpelled (request fetch v) → EachEarned places before (request_sent to (request fetch v))
-request_earned places before fetch to v spells = if_requested places before to (request fetch v) (request_backed places before fetch v) spells
+pub request_earned : (places : Places) (before : List Event) (to : Address) (v : View) → IsRequestSpelled (request v) → EachEarned places before (request_sent to (request v))
+request_earned places before to v spells = if_requested places before to (request v) (request_backed places before v) spells

@@ -19,7 +19,8 @@ use Rattle.game_server.specs.Fates.{Answered, AnswersBy, GoesTo, IsAnswered, IsU
 use Rattle.game_folder.specs.Holdings.{GamesFacts, IsKeptIn, IsQuiet, StaysNoted}
 use Rattle.game_server.specs.Seats.{AreKnown, AreSeats, IsKnownSeat, IsSeat, common, open_at, seat_moment}
 use Rattle.game_server.specs.Inside.Seating.{AnswersFrom, IsSeatedNow, SeatsFor}
-use Rattle.game_server.specs.Replies.{AreBacked, line_words}
+use Rattle.arbiter_server.specs.Told.{line_words}
+use Rattle.game_server.specs.Replies.{AreBacked}
 use Rattle.game_server.specs.declared.seat.Reply.{Reply}
 use Rattle.game_server.specs.declared.seat.Seat.{Seat}
 use Rattle.game_server.specs.declared.server.Server.{Server}

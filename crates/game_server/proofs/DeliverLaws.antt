@@ -18,7 +18,7 @@ use Rattle.timeline.specs.Outsides.{Outside}
 use Rattle.game_folder.specs.Drafts.{DraftView, settled}
 use Rattle.game_server.specs.Fates.{Answered, KeepsAnswer, KeptIfAny, fate_line, fate_outputs, is_lost_at}
 use Rattle.game_folder.specs.Holdings.{GamesFacts, IsKeptIn, IsKnown, StaysNoted, known}
-use Rattle.game_server.specs.Orders.{IsBacked}
+use Rattle.game_server.specs.Backed.{IsBacked}
 use Rattle.game_folder.specs.Places.{Held}
 use Rattle.game_server.specs.Seats.{IsKnownSeat, IsSeat}
 use Rattle.game_server.specs.Replies.{AreBacked}

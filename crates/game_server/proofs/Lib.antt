@@ -1,9 +1,6 @@
 pub mod Ports
 pub mod Saying
 pub mod Backing
-pub mod Earning
-pub mod Stepping
-pub mod TurnLaws
 pub mod Openings
 pub mod Announcing
 pub mod Knowing
@@ -13,3 +10,4 @@ pub mod DeliverLaws
 pub mod RoomLaws
 pub mod HearLaws
 pub mod DatagramLaws
+pub mod SendLaws

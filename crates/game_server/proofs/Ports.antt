@@ -3,7 +3,7 @@ use Rattle.std.proofs.Common.{◌≡◌, ◌≤◌, ◌∙◌, refl, ap, arith, 
 use Rattle.std.specs.declared.net.socket_addr.SocketAddr.{SocketAddr}
 use Rattle.system_io.specs.declared.recipient.Recipient.{Recipient}
 use Rattle.timeline.specs.Outsides.{HeardNothing, PortState, SendsToSame}
-use Rattle.game_server.specs.Turns.{Address, address, address_of}
+use Rattle.game_server.specs.Sending.{Address, address, address_of}
 
 pub sends_to_same : (p : PortState) → SendsToSame p p
 sends_to_same p = record { to = refl; faults = omega arith }

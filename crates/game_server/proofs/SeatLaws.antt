@@ -13,17 +13,25 @@ use Rattle.arbiter_core.specs.declared.keeper.Keep.TheVariants.{Good}
 use Rattle.arbiter_server.proofs.OpenedLaws.{good_unless}
 use Rattle.arbiter_server.specs.Games.{CommonView, IsGameOf, setup_of}
 use Rattle.board_core.specs.declared.parts.Parts.{Parts}
+use Rattle.move_msg.specs.declared.message.Message.{Message}
 use Rattle.timeline.specs.Events.{Event}
 use Rattle.game_folder.specs.Drafts.{DraftView, draft_facts, settled}
 use Rattle.timeline.specs.Outsides.{Outside}
-use Rattle.game_server.specs.Fates.{KeptIfAny}
+use Rattle.game_server.specs.Fates.{KeptIfAny, found_draft, is_unput}
 use Rattle.game_folder.specs.Holdings.{GamesFacts, IsKnown, IsQuiet, KeepsGame, StaysNoted, known}
-use Rattle.game_server.specs.Openings.{found_draft}
 use Rattle.game_folder.specs.declared.games.KeptGame.{KeptGame}
 use Rattle.game_server.proofs.Announcing.{IsDrafted}
 use Rattle.game_server.proofs.Knowing.{known_after, known_on, quiet_join}
 use Rattle.game_server.proofs.Openings.{IsBegun, begun}
-use Rattle.game_server.proofs.Stepping.{err_not_ok}
+
+err_not_ok : {A E : Type 0} (r : Result A E) (e : E) → IsOk r → r ≡ Err e → ⊥
+err_not_ok (Ok x) e h is = cc
+err_not_ok (Err x) e h is = cc
+
+-- what is kept was put, if it was to be
+pub put_if_any : (to_put : Option (List ℕ)) (outputs : List Message) → is_unput to_put true (Ok outputs) ≡ false
+put_if_any None outputs = refl
+put_if_any (Some bytes) outputs = refl
 
 -- ---- whose arbiter it is
 

@@ -1,3 +1,4 @@
+pub mod Backed
 pub mod Orders
 pub mod Seats
 pub mod Fates

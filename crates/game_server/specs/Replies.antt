@@ -6,7 +6,7 @@ use Rattle.move_msg.specs.declared.message.Message.{Message}
 use Rattle.timeline.specs.Events.{Event}
 use Rattle.game_server.specs.Fates.{Fate, fate_line, fate_outputs}
 use Rattle.game_folder.specs.Holdings.{GamesFacts, known}
-use Rattle.game_server.specs.Orders.{IsBacked}
+use Rattle.game_server.specs.Backed.{IsBacked}
 use Rattle.game_server.specs.declared.seat.Reply.{Reply}
 
 -- the messages and the line are those of this fate

@@ -26,7 +26,7 @@ pub struct Replies {
 impl Model for Replies {
     ghost use Rattle.std.specs.NonZero.{non_zero_usize_get};
     ghost use Rattle.std.specs.Prelude.{◌≤◌, vec_capacity};
-    ghost use Rattle.game_server.specs.Inside.Running.{RepliesView};
+    ghost use Rattle.game_server.specs.Inside.HeldReplies.{RepliesView};
 
     ghost Value = { RepliesView };
 

@@ -14,6 +14,7 @@ use Rattle.game_server.specs.Datagrams.{HearsDatagram}
 use Rattle.game_server.specs.Printing.{KnowsLines, LineForm, TextEnd, WritesLines, after_lines, form_in, is_out, text_events, written_text}
 use Rattle.game_server.specs.Rounds.{Heard, HearsAll, IsFull, ReceiveFails, RoundEnd, end_events, heard_events, withheld_line}
 use Rattle.game_server.specs.Runs.{IsTurn, Turn, came_in, deed_lines, ends_run, turn_events}
+use Rattle.game_server.specs.Inside.HeldReplies.{RepliesView}
 use Rattle.game_server.specs.Seats.{IsNewServer}
 use Rattle.game_server.specs.Sending.{AllSpelled, address, sent}
 use Rattle.game_server.specs.declared.lines.Lines.{Lines}
@@ -62,10 +63,6 @@ abbrev pub AreSpelled : List Held → Type 0
 AreSpelled held = AllByRecursion (λ h. AllSpelled h.reply.outputs.items) held
 
 -- ---- what is gathered
-
-pub record RepliesView : Type 0 where
-  pub held : List Held
-  pub most : ℕ
 
 -- the event of a receive
 abbrev pub received : Result (Option ℕ) PortFault → Option SocketAddr → List ℕ → Event

@@ -2,7 +2,7 @@ use Rattle.std.proofs.Common.{List, ℕ, ◌++◌, ap, subst, sym, ◌∙◌}
 use Rattle.arbiter_server.specs.Told.{stamped, unopened_words}
 use Rattle.judge_core.specs.Tables.{Holding}
 use Rattle.move_msg.specs.Messages.{stamp_in}
-use Rattle.game_server.specs.Replies.{line_words}
+use Rattle.arbiter_server.specs.Told.{line_words}
 use Rattle.game_server.specs.Seats.{IsSeat}
 use Rattle.timeline.proofs.EventLaws.{adds_more}
 use Rattle.game_server.proofs.DatagramLaws.{heard_answered, heard_unopened}

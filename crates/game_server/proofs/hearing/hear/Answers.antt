@@ -1,5 +1,5 @@
 use Rattle.std.proofs.Common.{ap, sym}
-use Rattle.game_server.specs.Replies.{line_words}
+use Rattle.arbiter_server.specs.Told.{line_words}
 use Rattle.game_server.proofs.DatagramLaws.{heard_unread}
 use Rattle.game_server.proofs.hearing.hear.Goals as goal
 

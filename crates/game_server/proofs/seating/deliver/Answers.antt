@@ -11,13 +11,13 @@ use Rattle.timeline.proofs.EventLaws.{adds_none}
 use Rattle.game_folder.specs.Drafts.{DraftView}
 use Rattle.game_server.specs.Fates.{KeepsAnswer}
 use Rattle.game_folder.specs.Holdings.{IsKeptIn, known}
-use Rattle.game_server.specs.Replies.{AreBacked, line_words}
-use Rattle.game_server.specs.Turns.{is_unput}
+use Rattle.arbiter_server.specs.Told.{line_words}
+use Rattle.game_server.specs.Replies.{AreBacked}
+use Rattle.game_server.specs.Fates.{is_unput}
 use Rattle.game_server.specs.declared.seat.Seat.{Seat}
 use Rattle.game_server.proofs.Announcing.{announces}
 use Rattle.game_server.proofs.DeliverLaws.{are_backed, fate_kept, fate_lost, is_known, is_seat, keeps_answer, keeps_lost}
-use Rattle.game_server.proofs.SeatLaws.{clean_draft, kept_if_any, kept_known, quiet_nothing, unkept_some}
-use Rattle.game_server.proofs.TurnLaws.{put_if_any}
+use Rattle.game_server.proofs.SeatLaws.{clean_draft, kept_if_any, kept_known, put_if_any, quiet_nothing, unkept_some}
 use Rattle.game_server.proofs.seating.deliver.Goals as goal
 
 pub returns-in-Ok-keep : goal.returns-in-Ok-keep

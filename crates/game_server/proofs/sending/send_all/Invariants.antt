@@ -1,7 +1,7 @@
 use Rattle.std.proofs.Common.{take}
 use Rattle.timeline.specs.Outsides.{Adds, HeardNothing}
-use Rattle.game_server.specs.Turns.{AllSpelled, address_of, sent}
-use Rattle.game_server.proofs.serving.send_all.Given as goal
+use Rattle.game_server.specs.Sending.{AllSpelled, address_of, sent}
+use Rattle.game_server.proofs.sending.send_all.Given as goal
 
 abbrev pub invariant-loop-message : goal.invariant-loop-message
 invariant-loop-message g l = record {

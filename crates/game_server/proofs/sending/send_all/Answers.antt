@@ -1,8 +1,8 @@
 use Rattle.move_msg.specs.Messages.{SpellsMessage, message_text}
 use Rattle.timeline.proofs.EventLaws.{adds_none}
 use Rattle.game_server.proofs.Ports.{heard_nothing, nothing_then, still_to}
-use Rattle.game_server.proofs.Stepping.{all_more, sent_more}
-use Rattle.game_server.proofs.serving.send_all.Goals as goal
+use Rattle.game_server.proofs.SendLaws.{all_more, sent_more}
+use Rattle.game_server.proofs.sending.send_all.Goals as goal
 
 pub loop-message-init : goal.loop-message-init
 loop-message-init g c = record {
