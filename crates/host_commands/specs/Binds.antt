@@ -12,7 +12,7 @@ use Rattle.host_commands.specs.Notes.{MayNote}
 -- it is bound to this address, and sends to each of those that this word names
 pub record IsPortOf {T P F K S L : Type 0} (o : Outside T P F K S L) (address to : List ℕ) (port : P) : Type 0 where
   pub at : (o.port port).address ≡ address
-  pub to : AreNamed (o.port port).own (addresses_of to) (o.port port).to
+  pub each : AreNamed (o.port port).own (addresses_of to) (o.port port).to
 
 abbrev pub unbound_line : List ℕ → List ℕ
 unbound_line address = address ++ codes " can't be bound"

@@ -24,7 +24,7 @@ pub data Clashes (where_kept : StoreForm) (names : List (List ℕ)) (what : List
   UnwantedStore : (HasHalfStore names → ⊥) → where_kept ≡ form.Files → Contains names store_name → what ≡ unwanted_store → Clashes where_kept names what
 
 abbrev pub clash_line : List ℕ → List ℕ → List ℕ
-clash_line folder what = folder ++ codes " has " ++ what
+clash_line folder what = folder ++ (codes " has " ++ what)
 
 -- the folder is listed: nothing bars it; or something does, which is noted; or it can't be listed
 pub data ListsGames (disk : DiskFacts) (folder : List ℕ) (where_kept : StoreForm) (result : Result (Unit {0}) (List ℕ)) (events : List Event) : Type 0 where

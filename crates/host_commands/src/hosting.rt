@@ -208,14 +208,14 @@ struct Common<'a> {
 }
 
 /// Opens the store of the folder, and serves the games, whose records are kept there.
-fn store_and_serve<'a, S: System>(
+fn store_and_serve<'a, 'w, S: System>(
     alloc: Global,
-    plan: &HostPlan<'_, 'a>,
+    plan: &HostPlan<'_, 'w>,
     common: Common<'a>,
     system: &S,
     timeline: &mut S::Timeline,
 ) -> Result<u8, WriteFault>
-    ensures made { AddsSome (S.outside system.now) timeline.old timeline.new (Performs (RunsStore (S.outside system.now) (either_games ⟦<FolderGames<'a> as Games<S>>⟧.facts ⟦<StoreGames<'a, S> as Games<S>>⟧.facts) plan.now.task.now (common_with common.entry.config common.entry.tables) plan.now.read) result) }
+    ensures made { AddsSome (S.outside system.now) timeline.old timeline.new (Performs (RunsStore (S.outside system.now) (either_games ⟦<FolderGames<'w> as Games<S>>⟧.facts ⟦<StoreGames<'w, S> as Games<S>>⟧.facts) plan.now.task.now (common_with common.entry.config common.entry.tables) plan.now.read) result) }
     ensures cause { OnErr result (OutputFails (S.outside system.now)) }
 {
     match open_games(alloc, system, timeline, plan.task.games) {
@@ -233,14 +233,14 @@ fn store_and_serve<'a, S: System>(
 }
 
 /// Serves the games of the folder, whose records are kept as the words say.
-fn keep_and_serve<'a, S: System>(
+fn keep_and_serve<'a, 'w, S: System>(
     alloc: Global,
-    plan: &HostPlan<'_, 'a>,
+    plan: &HostPlan<'_, 'w>,
     common: Common<'a>,
     system: &S,
     timeline: &mut S::Timeline,
 ) -> Result<u8, WriteFault>
-    ensures made { AddsSome (S.outside system.now) timeline.old timeline.new (Performs (RunsKept (S.outside system.now) (either_games ⟦<FolderGames<'a> as Games<S>>⟧.facts ⟦<StoreGames<'a, S> as Games<S>>⟧.facts) plan.now.task.now plan.now.task.now.store (common_with common.entry.config common.entry.tables) plan.now.read) result) }
+    ensures made { AddsSome (S.outside system.now) timeline.old timeline.new (Performs (RunsKept (S.outside system.now) (either_games ⟦<FolderGames<'w> as Games<S>>⟧.facts ⟦<StoreGames<'w, S> as Games<S>>⟧.facts) plan.now.task.now plan.now.task.now.store (common_with common.entry.config common.entry.tables) plan.now.read) result) }
     ensures cause { OnErr result (OutputFails (S.outside system.now)) }
 {
     match plan.task.store {
@@ -260,14 +260,14 @@ fn keep_and_serve<'a, S: System>(
 }
 
 /// Locks the folder of games, and serves them as long as it is locked.
-fn lock_and_serve<'a, S: System>(
+fn lock_and_serve<'a, 'w, S: System>(
     alloc: Global,
-    plan: &HostPlan<'_, 'a>,
+    plan: &HostPlan<'_, 'w>,
     common: Common<'a>,
     system: &S,
     timeline: &mut S::Timeline,
 ) -> Result<u8, WriteFault>
-    ensures made { AddsSome (S.outside system.now) timeline.old timeline.new (Performs (LocksAndRuns (S.outside system.now) (either_games ⟦<FolderGames<'a> as Games<S>>⟧.facts ⟦<StoreGames<'a, S> as Games<S>>⟧.facts) plan.now.task.now (common_with common.entry.config common.entry.tables) plan.now.read) result) }
+    ensures made { AddsSome (S.outside system.now) timeline.old timeline.new (Performs (LocksAndRuns (S.outside system.now) (either_games ⟦<FolderGames<'w> as Games<S>>⟧.facts ⟦<StoreGames<'w, S> as Games<S>>⟧.facts) plan.now.task.now (common_with common.entry.config common.entry.tables) plan.now.read) result) }
     ensures cause { OnErr result (OutputFails (S.outside system.now)) }
 {
     match lock(alloc, system, timeline, plan.task.games, IN_GAMES) {

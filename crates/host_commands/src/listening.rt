@@ -210,12 +210,12 @@ fn one_game<'t>(task: &Listen<'t>, start: Position, manifest: &[u8]) -> OneGame<
 }
 
 /// What is served of the game from this start, by these tables.
-fn served_from<'a>(
-    task: &Listen<'a>,
+fn served_from<'a, 't>(
+    task: &Listen<'t>,
     start: Position,
     tables: Set<'a>,
     manifest: &'a [u8],
-) -> OneServed<'a, OneGame<'a>>
+) -> OneServed<'a, OneGame<'t>>
     ensures { IsOneServed task.now start tables.entry manifest.now (served_one result) }
 {
     OneServed {

@@ -18,17 +18,24 @@ use Rattle.host_commands.specs.declared.arriving.Seen.{Seen}
 use Rattle.host_commands.specs.declared.arriving.Seen.TheVariants as seen
 use Rattle.host_commands.specs.declared.importing.Arrivals.{Arrivals}
 
--- the file at a path is read for the record of a game: it has this one, or none; or the words of the refusal
-pub data ReadsRecord {T P F K S L : Type 0} (o : Outside T P F K S L) (path stamp : List ℕ) (result : Result (Option Entry) Refusal) (events : List Event) : Type 0 where
-  HasRecord : (e : Entry) → o.disk.holds path e.record.items → IsEntryOf stamp e.record.items e → result ≡ Ok (Some e) → events ≡ FileRead path (Ok e.record.items) ∷ [] → ReadsRecord o path stamp result events
-  HasNoRecord : (bytes : List ℕ) → o.disk.holds path bytes → IsNoRecordOf stamp bytes → result ≡ Ok None → events ≡ FileRead path (Ok bytes) ∷ [] → ReadsRecord o path stamp result events
-  IsUnread : (why : ReadFault) (refusal : Refusal) → (why ≡ read.Unreadable → o.disk.fails (AtFile path) ⊎ HasMore o.disk path most_kept) → refusal_words refusal ≡ record_refusal why → result ≡ Err refusal → events ≡ FileRead path (Err why) ∷ [] → ReadsRecord o path stamp result events
-  NoRoomToDecode : (bytes : List ℕ) (refusal : Refusal) → refusal_words refusal ≡ refused_memory → result ≡ Err refusal → events ≡ FileRead path (Ok bytes) ∷ [] → ReadsRecord o path stamp result events
+-- the file at a path is read for the record of a game, and why that fails, by the words of the refusal
+pub data CannotReadRecord {T P F K S L : Type 0} (o : Outside T P F K S L) (path words : List ℕ) (events : List Event) : Type 0 where
+  IsUnread : (why : ReadFault) → (why ≡ read.Unreadable → o.disk.fails (AtFile path) ⊎ HasMore o.disk path most_kept) → words ≡ record_refusal why → events ≡ FileRead path (Err why) ∷ [] → CannotReadRecord o path words events
+  NoRoomToDecode : (bytes : List ℕ) → words ≡ refused_memory → events ≡ FileRead path (Ok bytes) ∷ [] → CannotReadRecord o path words events
+
+-- it has this one, or none
+abbrev pub HasRecord : {T P F K S L : Type 0} → Outside T P F K S L → List ℕ → List ℕ → Option Entry → List Event → Type 0
+HasRecord o path stamp (Some e) events = o.disk.holds path e.record.items × IsEntryOf stamp e.record.items e × (events ≡ FileRead path (Ok e.record.items) ∷ [])
+HasRecord o path stamp None events = (bytes : List ℕ) × o.disk.holds path bytes × IsNoRecordOf stamp bytes × (events ≡ FileRead path (Ok bytes) ∷ [])
+
+abbrev pub ReadsRecord : {T P F K S L : Type 0} → Outside T P F K S L → List ℕ → List ℕ → Result (Option Entry) Refusal → List Event → Type 0
+ReadsRecord o path stamp (Ok found) events = HasRecord o path stamp found events
+ReadsRecord o path stamp (Err refusal) events = CannotReadRecord o path (refusal_words refusal) events
 
 -- so it is of a game's file; or memory for its path was refused
-pub data ReadsInFolder {T P F K S L : Type 0} (o : Outside T P F K S L) (folder stamp : List ℕ) (result : Result (Option Entry) Refusal) (events : List Event) : Type 0 where
-  AtPath : ReadsRecord o (kept_path folder stamp) stamp result events → ReadsInFolder o folder stamp result events
-  NoPath : (refusal : Refusal) → refusal_words refusal ≡ refused_memory → result ≡ Err refusal → events ≡ [] → ReadsInFolder o folder stamp result events
+abbrev pub ReadsInFolder : {T P F K S L : Type 0} → Outside T P F K S L → List ℕ → List ℕ → Result (Option Entry) Refusal → List Event → Type 0
+ReadsInFolder o folder stamp (Ok found) events = HasRecord o (kept_path folder stamp) stamp found events
+ReadsInFolder o folder stamp (Err refusal) events = CannotReadRecord o (kept_path folder stamp) (refusal_words refusal) events ⊎ ((refusal_words refusal ≡ refused_memory) × (events ≡ []))
 
 -- what is found of a game, without the bytes of what doesn't go over
 abbrev pub IsSeen : Seen → Kept → Type 0
@@ -48,11 +55,14 @@ SeesGame o folder store stamp (Err refusal) events = FailsToLook o folder store 
 abbrev pub AddsSeen : List ℕ → Seen → List Entry → List (List ℕ) → List Entry → List (List ℕ) → Type 0
 AddsSeen stamp seen entries left entries' left' = (kept : Kept) → IsSeen seen kept → (entries' ≡ entries ++ entry_in kept) × (left' ≡ left ++ left_by stamp kept)
 
--- the stamps of the records that a folder lists as files; or the words that say why they aren't known
-pub data ListsKept (disk : DiskFacts) (folder : List ℕ) (result : Result (Vec (List ℕ) Global) Refusal) (events : List Event) : Type 0 where
-  StampsAre : (names : List (List ℕ)) (stamps : Vec (List ℕ) Global) → disk.lists folder names → AreListed names stamps.items → result ≡ Ok stamps → events ≡ FolderListed folder (Ok names) ∷ [] → ListsKept disk folder result events
-  StampsAreNot : (names : List (List ℕ)) (refusal : Refusal) → disk.lists folder names → refusal_words refusal ≡ refused_memory → result ≡ Err refusal → events ≡ FolderListed folder (Ok names) ∷ [] → ListsKept disk folder result events
-  NoNames : (fault : ReadFault) (refusal : Refusal) → (fault ≡ read.Unreadable → disk.fails (AtFolder folder)) → refusal_words refusal ≡ cut_words fault → result ≡ Err refusal → events ≡ FolderListed folder (Err fault) ∷ [] → ListsKept disk folder result events
+-- why the stamps of the records that a folder lists as files aren't known, by the words of the refusal
+pub data CannotListKept (disk : DiskFacts) (folder words : List ℕ) (events : List Event) : Type 0 where
+  NoRoomForThem : (names : List (List ℕ)) → disk.lists folder names → words ≡ refused_memory → events ≡ FolderListed folder (Ok names) ∷ [] → CannotListKept disk folder words events
+  NoNames : (fault : ReadFault) → (fault ≡ read.Unreadable → disk.fails (AtFolder folder)) → words ≡ cut_words fault → events ≡ FolderListed folder (Err fault) ∷ [] → CannotListKept disk folder words events
+
+abbrev pub ListsKept : DiskFacts → List ℕ → Result (Vec (List ℕ) Global) Refusal → List Event → Type 0
+ListsKept disk folder (Ok stamps) events = (names : List (List ℕ)) × disk.lists folder names × AreListed names stamps.items × (events ≡ FolderListed folder (Ok names) ∷ [])
+ListsKept disk folder (Err refusal) events = CannotListKept disk folder (refusal_words refusal) events
 
 -- what goes over and what stays, of games that were looked at
 pub record AreArrivals (looks : List Look) (a : Arrivals) : Type 0 where

@@ -1,5 +1,5 @@
 -- Parts of `listen` and `host`; cited by private clauses alone.
-use Rattle.std.specs.Prelude.{◌≡◌, ◌<◌, ◌++◌, ℕ, Bool, List, [], ◌∷◌, length, Option, Some, Result, Ok, Err, String, Vec, string_bytes}
+use Rattle.std.specs.Prelude.{◌≡◌, ◌<◌, ◌⊎◌, ◌++◌, ℕ, Bool, List, [], ◌∷◌, length, Option, Some, Result, Ok, Err, String, Vec, string_bytes}
 use Rattle.std.specs.Global.{Global}
 use Rattle.std.specs.declared.net.socket_addr.SocketAddr.{SocketAddr}
 use Rattle.answer_parts.specs.Lines.{refusal_words}
@@ -39,11 +39,14 @@ manifest_taken (Err refusal) = Err (refusal_words refusal)
 abbrev pub GivesReadyLine : Option SocketAddr → Result (String Global) Refusal → Type 0
 GivesReadyLine own result = IsReadyLine own (line_taken result) []
 
--- a port is asked for; or memory for several addresses was refused
-pub data AsksForPort {T P F K S L : Type 0} (o : Outside T P F K S L) (address to : List ℕ) (result : Result P BindFault) (events : List Event) : Type 0 where
-  PortGiven : (port : P) → IsPortOf o address to port → result ≡ Ok port → events ≡ PortBound address (addresses_of to) (Ok tt) ∷ [] → AsksForPort o address to result events
-  PortRefused : (why : BindFault) → o.refuses_port address why → result ≡ Err why → events ≡ PortBound address (addresses_of to) (Err why) ∷ [] → AsksForPort o address to result events
-  NoList : 1 < length (addresses_of to) → result ≡ Err bind.OutOfMemory → events ≡ [] → AsksForPort o address to result events
+-- the system refused a port; or memory for several addresses was refused
+abbrev pub LacksPort : {T P F K S L : Type 0} → Outside T P F K S L → List ℕ → List ℕ → BindFault → List Event → Type 0
+LacksPort o address to why events = (o.refuses_port address why × (events ≡ PortBound address (addresses_of to) (Err why) ∷ [])) ⊎ ((why ≡ bind.OutOfMemory) × (1 < length (addresses_of to)) × (events ≡ []))
+
+-- a port is asked for
+abbrev pub AsksForPort : {T P F K S L : Type 0} → Outside T P F K S L → List ℕ → List ℕ → Result P BindFault → List Event → Type 0
+AsksForPort o address to (Ok port) events = IsPortOf o address to port × (events ≡ PortBound address (addresses_of to) (Ok tt) ∷ [])
+AsksForPort o address to (Err why) events = LacksPort o address to why events
 
 -- ---- of `listen`
 

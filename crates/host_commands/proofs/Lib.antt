@@ -1,0 +1,5 @@
+pub mod StepLaws
+pub mod BindLaws
+pub mod RunLaws
+pub mod ListLaws
+pub mod ListenLaws
