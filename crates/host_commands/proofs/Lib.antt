@@ -3,3 +3,6 @@ pub mod BindLaws
 pub mod RunLaws
 pub mod ListLaws
 pub mod ListenLaws
+pub mod HostLaws
+pub mod LookLaws
+pub mod ImportLaws

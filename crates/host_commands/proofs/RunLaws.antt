@@ -88,7 +88,7 @@ module _ {T P F K S L G : Type 0} (o : Outside T P F K S L) (facts : GamesFacts 
   }
   last_turn before old (y ∷ turns) t new p =
       let next = last_turn (after_lines before (deed_lines y.deed)) p.0 turns t new p.2 in
-      record { mid = next.mid; texts = next.texts; is = next.is; other = λ x is. (p.0, (p.1, next.other x is)) }
+      record { mid = next.mid; texts = next.texts; is = next.is; other = λ x is. (p.0, p.1, next.other x is) }
 
   module _ (n : ℕ) (to : List Recipient) (old : Server G F) where
     abbrev IsFront : List Event → Type 0

@@ -1,5 +1,4 @@
-use Rattle.std.proofs.Common.{◌∙◌}
-use Rattle.std.specs.Prelude.{string_bytes}
+use Rattle.std.specs.Prelude.{Err, string_bytes}
 use Rattle.answer_parts.specs.Lines.{refusal_words}
 use Rattle.host_commands.proofs.StepLaws.{after_text, goes_on_so, is_refused_so, text_lost}
 use Rattle.host_commands.specs.Inside.Parts.{served_one}
@@ -26,4 +25,4 @@ returns-in-Err-print_out-clause-made g c =
     let o = g.S.System.outside c.args.system.now in
     let rest = LocksAndRuns o g.G.Games.facts c.args.task.now (served_one c.args.served) c.args.port.now in
     let text = string_bytes c.in-Ok.line in
-    goes_on_so o _ _ (IsReadyLine (o.port c.args.port.now).own) (λ line. AfterText line rest) text _ c.in-Ok.ensures (text_lost o _ _ text rest c.in-Err-print_out.fault (rw c.as_str.ensures.value at c.in-Err-print_out.ensures.made))
+    goes_on_so o _ _ (IsReadyLine (o.port c.args.port.now).own) (λ line. AfterText line rest) text (Err c.in-Err-print_out.fault) c.in-Ok.ensures (text_lost o _ _ text rest c.in-Err-print_out.fault (rw c.as_str.ensures.value at c.in-Err-print_out.ensures.made))
