@@ -1,5 +1,5 @@
 -- What places of games know and keep, over one timeline (this project's own).
-use Rattle.std.specs.Prelude.{◌≡◌, ◌⊎◌, ℕ, Bool, List, [], ◌∷◌, Option, Some, None, Result, Ok, Err, IfOk, IsOk, OnErr, OnOk}
+use Rattle.std.specs.Prelude.{◌≡◌, ◌⊎◌, ℕ, Bool, List, [], Option, Some, None, Result, Ok, Err, IfOk, IsOk, OnErr, OnOk}
 use Rattle.std.specs.List.{AllByRecursion}
 use Rattle.std.specs.declared.net.socket_addr.SocketAddr.{SocketAddr}
 use Rattle.arbiter_server.specs.declared.fault.OpenGameError.{OpenGameError}
@@ -7,7 +7,7 @@ use Rattle.arbiter_server.specs.declared.fault.Uncommitted.{Uncommitted}
 use Rattle.arbiter_server.specs.declared.games.GameConfig.{GameConfig}
 use Rattle.timeline.specs.Events.{Event, Sent, is_done}
 use Rattle.timeline.specs.Outsides.{Outside}
-use Rattle.game_folder.specs.Drafts.{DraftView, settled}
+use Rattle.game_folder.specs.Drafts.{settled}
 use Rattle.game_folder.specs.Places.{Held, InFile, InStore, KeptAt, Places, WasKept}
 use Rattle.game_folder.specs.declared.games.KeptGame.{KeptGame}
 
@@ -38,6 +38,11 @@ abbrev pub IsKeptIn : {T P F K S L : Type 0} → Outside T P F K S L → KeptAt 
 IsKeptIn o at (Some file) = at ≡ InFile (o.path file)
 IsKeptIn o at None = (path : List ℕ) × (at ≡ InStore path)
 
+-- what is kept of a game, or why that can't be had
+abbrev pub kept_of : {F : Type 0} → Result (KeptGame F) OpenGameError → Result (Option (List ℕ)) OpenGameError
+kept_of (Ok game) = Ok game.draft.kept
+kept_of (Err why) = Err why
+
 module _ {G : Type 0} (facts : GamesFacts G) where
   -- these bytes were kept of the game with this stamp so far, or are to be committed
   abbrev pub known : G → List Event → Held
@@ -67,10 +72,6 @@ module _ {G : Type 0} (facts : GamesFacts G) where
     pub within : IsKeptIn o (facts.places (facts.place g) stamp) game.file
     pub clean : game.draft.to_put ≡ None
     pub known : IsKnown g events stamp game.draft.kept
-
-  abbrev pub kept_of : {F : Type 0} → Result (KeptGame F) OpenGameError → Result (Option (List ℕ)) OpenGameError
-  kept_of (Ok game) = Ok game.draft.kept
-  kept_of (Err why) = Err why
 
   pub record TakesGame {T P F K S L : Type 0} (o : Outside T P F K S L) (old new : G) (stamp : List ℕ) (result : Result (KeptGame F) OpenGameError) (events : List Event) : Type 0 where
     pub still : IsQuiet old new events

@@ -1,5 +1,5 @@
 -- Where the records of games are kept, and what was kept there so far (this project's own).
-use Rattle.std.specs.Prelude.{◌≡◌, ◌⊎◌, ℕ, true, List, Option, Some, Ok}
+use Rattle.std.specs.Prelude.{◌≡◌, ◌⊎◌, ℕ, true, List, Some, Ok}
 use Rattle.std.specs.List.{Contains}
 use Rattle.system_io.specs.Records.{StoredRecord}
 use Rattle.timeline.specs.Events.{Event, Committed, Found, Put, RecordSought}

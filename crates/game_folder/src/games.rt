@@ -22,8 +22,9 @@ pub struct KeptGame<F: Drop> {
 
 /// Games, each under its stamp: what is told of it, and its record. What a call does outside is said by its events.
 pub trait Games<S: System> {
-    /// Where records are kept, what was noted, and which events each call makes.
-    ghost facts: { GamesFacts Self };
+    /// Where records are kept, what was noted, and which events each call makes. It may depend on the system: only that knows the path of
+    /// a store.
+    ghost facts: { S → GamesFacts Self };
 
     /// What is told of the game with this stamp.
     fn find(
@@ -33,7 +34,7 @@ pub trait Games<S: System> {
         timeline: &mut S::Timeline,
         stamp: Stamp,
     ) -> Result<GameConfig, OpenGameError>
-        ensures made { AddsSome (S.outside system.now) timeline.old timeline.new (FindsGame facts self.now stamp result) };
+        ensures made { AddsSome (S.outside system.now) timeline.old timeline.new (FindsGame (facts system.now) self.now stamp result) };
 
     /// The record of the game with this stamp, as it is noted or kept by now.
     fn take(
@@ -43,7 +44,7 @@ pub trait Games<S: System> {
         timeline: &mut S::Timeline,
         stamp: Stamp,
     ) -> Result<KeptGame<S::File>, OpenGameError>
-        ensures made { AddsSome (S.outside system.now) timeline.old timeline.new (TakesGame facts (S.outside system.now) self.old self.new stamp result) };
+        ensures made { AddsSome (S.outside system.now) timeline.old timeline.new (TakesGame (facts system.now) (S.outside system.now) self.old self.new stamp result) };
 
     /// Keeps what a game has to put, if anything: it is put in its file at once, or noted. Nothing is to be put afterwards. After an error
     /// what is kept is what a start finds, which may be the record of before or the new one.
@@ -53,11 +54,11 @@ pub trait Games<S: System> {
         timeline: &mut S::Timeline,
         game: &mut KeptGame<S::File>,
     ) -> Result<(), OpenGameError>
-        requires { IsKeptIn (S.outside system.now) (facts.places (facts.place self.old) game.old.stamp) game.old.file }
-        ensures made { AddsSome (S.outside system.now) timeline.old timeline.new (KeepsGame facts (S.outside system.now) self.old self.new game.old game.new result) };
+        requires { IsKeptIn (S.outside system.now) ((facts system.now).places ((facts system.now).place self.old) game.old.stamp) game.old.file }
+        ensures made { let o = S.outside system.now in AddsSome o timeline.old timeline.new (KeepsGame (facts system.now) o self.old self.new game.old game.new result) };
 
     /// Commits what was noted. No answer to a datagram goes out before. After an error it stays noted; where that isn't for want of memory
     /// alone, no more can be committed.
     fn commit(&mut self, system: &S, timeline: &mut S::Timeline) -> Result<(), Uncommitted>
-        ensures made { AddsSome (S.outside system.now) timeline.old timeline.new (CommitsGames facts self.old self.new result) };
+        ensures made { AddsSome (S.outside system.now) timeline.old timeline.new (CommitsGames (facts system.now) self.old self.new result) };
 }

@@ -17,8 +17,8 @@ use Rattle.game_folder.specs.Drafts.{DraftView}
 use Rattle.game_server.specs.Fates.{IsFound, IsOther, NotFound, OpensFor, OpensNone, OpensSeat, TakesAndOpens, TakesNone, TakesOne}
 use Rattle.game_folder.specs.Holdings.{GamesFacts, IsQuiet, StaysNoted, TakesGame}
 use Rattle.game_server.specs.Fates.{found_draft}
-use Rattle.game_server.specs.Seats.{IsKnownSeat, IsSeat, common}
-use Rattle.game_server.specs.Inside.Seating.{IsKnownThen, KnowsSeat, LooksUp, OpensForMessage, OpensOverKept, OpensTaken, SameSeats, seated_as}
+use Rattle.game_server.specs.Seats.{IsKnownSeat, IsSeat, SameSeats, common}
+use Rattle.game_server.specs.Inside.Seating.{IsKnownThen, KnowsSeat, LooksUp, OpensForMessage, OpensOverKept, OpensTaken, seated_as}
 use Rattle.game_folder.specs.declared.games.KeptGame.{KeptGame}
 use Rattle.game_server.specs.declared.seat.Seat.{Seat}
 use Rattle.game_server.specs.declared.server.Server.{Server}

@@ -1,5 +1,5 @@
 -- One datagram at a server of many games.
-use Rattle.std.proofs.Common.{◌≡◌, inl, inr, ◌++◌, [], ◌∙◌, ℕ, Bool, true, false, List, Option, Some, None, refl, sym, ap, subst, append-nil, append_assoc}
+use Rattle.std.proofs.Common.{◌≡◌, inl, inr, ◌++◌, [], ◌∙◌, ℕ, Bool, true, false, cond, List, Option, Some, None, refl, sym, ap, subst, append-nil, append_assoc}
 use Rattle.std.specs.Prelude.{Result, Ok, Err, IfSome, option_map}
 use Rattle.std.specs.Str.{bytes_eq}
 use Rattle.std.proofs.lemmas.Slice.Eq.{bytes_eq-Decides}
@@ -15,7 +15,7 @@ use Rattle.timeline.specs.Outsides.{AddsSome, Outside}
 use Rattle.timeline.proofs.EventLaws.{adds_none}
 use Rattle.game_server.specs.Datagrams.{HearsDatagram, IsLeftOpen, IsNotOf, was_open}
 use Rattle.game_folder.specs.Drafts.{DraftView, settled}
-use Rattle.game_server.specs.Fates.{Answered, AnswersBy, GoesTo, IsAnswered, IsUnopened, IsUnread, KeepsAnswer, Unopened, Unread, fate_line}
+use Rattle.game_server.specs.Fates.{Answered, AnswersBy, GoesTo, IsAnswered, IsUnopened, IsUnread, KeepsAnswer, Unopened, Unread, fate_leaves, fate_line, is_unput}
 use Rattle.game_folder.specs.Holdings.{GamesFacts, IsKeptIn, IsQuiet, StaysNoted}
 use Rattle.game_server.specs.Seats.{AreKnown, AreSeats, IsKnownSeat, IsSeat, common, open_at, seat_moment}
 use Rattle.game_server.specs.Inside.Seating.{AnswersFrom, IsSeatedNow, SeatsFor}
@@ -97,6 +97,10 @@ module _ {T P F K S L G : Type 0} (o : Outside T P F K S L) (facts : GamesFacts 
     answers_as = subst (λ (set : Holding). AnswersBy facts old.games (stamp_in m) (seat_moment set seat) m a.told a.after a.is_kept rest) s.tables
         (record { answers = a.answers.answers; kept = subst (λ (p : facts.Place). KeepsAnswer facts p (stamp_in m) a.told a.after.keeper.to_put a.is_kept rest) s.still.place a.answers.kept })
 
+    own_closed : (b : Bool) → is_unput a.after.keeper.to_put a.is_kept a.told ≡ b → IsLeftOpen (cond b None (Some left)) (option_map (seat_moment new.tables) (open_at new (stamp_in m)))
+    own_closed true is = inl (ap (option_map (seat_moment new.tables)) (a.closed is))
+    own_closed false is = own_left (open_at new (stamp_in m)) a.own
+
     pub heard_answered : (datagram : List ℕ) → heard_in datagram ≡ Ok m → HearsDatagram o facts old new datagram reply (first ++ rest)
     heard_answered datagram is = record {
       config = a.config ∙ s.config;
@@ -107,7 +111,7 @@ module _ {T P F K S L G : Type 0} (o : Outside T P F K S L) (facts : GamesFacts 
       goes = subst (λ (x : Result Message MessageFault). GoesTo facts (common old) old.games datagram (was_open old x) (first ++ rest) (Answered (stamp_in m) (exchange datagram a.told a.after) a.is_kept)) (sym is)
           (IsAnswered m first rest (seat_moment old.tables seat) a.after a.told a.is_kept is s.had answers_as refl refl);
       is = a.is datagram;
-      own = subst (λ (x : Result Message MessageFault). IsLeftOpen (Some left) (was_open new x)) (sym is) (own_left (open_at new (stamp_in m)) a.own);
+      own = subst (λ (x : Result Message MessageFault). IsLeftOpen (fate_leaves (Answered (stamp_in m) (exchange datagram a.told a.after) a.is_kept)) (was_open new x)) (sym is) (own_closed (is_unput a.after.keeper.to_put a.is_kept a.told) refl);
       others = λ other apart. all_others other (subst (IsNotOf other) is apart);
       seats = seats_now o facts old new (stamp_in m) all_tables all_still.place all_noted all_others seats (own_seats (open_at new (stamp_in m)) a.own);
       backed = λ before knew. subst (λ (b : List Event). AreBacked facts new.games b reply.outputs.items) (append_assoc before first rest) (a.backed (before ++ first) (s.knows before knew));

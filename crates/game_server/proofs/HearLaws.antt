@@ -117,6 +117,7 @@ module _ {T P F K S L G : Type 0} (o : Outside T P F K S L) (facts : GamesFacts 
       is_kept = h.is_kept;
       answers = h.answers;
       is = h.reply;
+      closed = λ lost. absurd (let f : true ≡ false = h.closed lost in cc);
       own = own_seat (at_stamp l.entries (stamp_in m)) (subst (λ (k : Option (Seat F)). IsLeftOpen k (at_stamp l.entries (stamp_in m))) (ap (λ (b : Bool). cond b (Some seat') (open_at mid (stamp_in m))) (own_stamp (stamp_in m))) (left (stamp_in m)));
       others = λ other apart. subst (λ (k : Option (Seat F)). IsLeftOpen k (at_stamp l.entries other)) (ap (λ (b : Bool). cond b (Some seat') (open_at mid other)) apart ∙ at_mid events true h other) (left other);
       backed = h.backed;
@@ -133,6 +134,7 @@ module _ {T P F K S L G : Type 0} (o : Outside T P F K S L) (facts : GamesFacts 
     is_kept = h.is_kept;
     answers = h.answers;
     is = h.reply;
+    closed = λ lost. at_mid events false h (stamp_in m) ∙ absent;
     own = subst (λ (k : Option (Seat F)). IsSeatedNow o facts old.games mid.games old.tables (stamp_in m) seat (moment h.after.arbiter (settled h.after.keeper)) events k) (sym (at_mid events false h (stamp_in m) ∙ absent)) tt;
     others = λ other apart. inl (at_mid events false h other);
     backed = h.backed;

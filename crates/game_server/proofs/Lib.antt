@@ -11,3 +11,7 @@ pub mod RoomLaws
 pub mod HearLaws
 pub mod DatagramLaws
 pub mod SendLaws
+pub mod PrintLaws
+pub mod GatherLaws
+pub mod RunLaws
+pub mod EarnLaws

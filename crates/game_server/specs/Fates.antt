@@ -60,11 +60,11 @@ fate_outputs (Unread fault) = []
 fate_outputs (Unopened stamp why) = []
 fate_outputs (Answered stamp e is_kept) = cond (is_lost_at e is_kept) [] (outputs_of e.told)
 
--- where its game is afterwards, if it stays open
+-- where its game is afterwards, if it stays open; one whose record isn't kept is closed
 abbrev pub fate_leaves : Fate → Option (Moment DraftView)
 fate_leaves (Unread fault) = None
 fate_leaves (Unopened stamp why) = None
-fate_leaves (Answered stamp e is_kept) = Some (moment e.after.arbiter (settled e.after.keeper))
+fate_leaves (Answered stamp e is_kept) = cond (is_lost_at e is_kept) None (Some (moment e.after.arbiter (settled e.after.keeper)))
 
 -- ---- an arbiter answers
 

@@ -8,4 +8,5 @@ pub mod Sending
 pub mod Printing
 pub mod Rounds
 pub mod Runs
+pub mod Starting
 pub mod Inside

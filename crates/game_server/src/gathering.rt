@@ -46,9 +46,9 @@ fn hear_one<'a, S: System, G: Games<S> + Drop>(
     sender: Option<SocketAddr>,
     replies: &mut Replies,
 )
-    requires seats { AreSeats (S.outside system.now) G.facts server.old }
+    requires seats { AreSeats (S.outside system.now) (G.facts system.now) server.old }
     requires room { length replies.old.held < replies.old.most }
-    ensures made { AddsSome (S.outside system.now) timeline.old timeline.new (HearsOne (S.outside system.now) G.facts server.old server.new bytes.now sender replies.old replies.new) }
+    ensures made { AddsSome (S.outside system.now) timeline.old timeline.new (HearsOne (S.outside system.now) (G.facts system.now) server.old server.new bytes.now sender replies.old replies.new) }
 {
     let reply = hear(server, system, timeline, bytes);
     replies.add(Held { reply, sender });
@@ -64,22 +64,22 @@ pub(crate) fn gather<'a, S: System, G: Games<S> + Drop>(
     most: usize,
     replies: &mut Replies,
 ) -> bool
-    requires seats { AreSeats (S.outside system.now) G.facts server.old }
+    requires seats { AreSeats (S.outside system.now) (G.facts system.now) server.old }
     requires some { 0 < most }
     requires room { most ≤ replies.old.most }
-    ensures gathers { GathersFrom (S.outside system.now) G.facts most server.old server.new port.old port.new replies.old replies.new timeline.old timeline.new result }
-    ensures seats { AreSeats (S.outside system.now) G.facts server.new }
+    ensures gathers { GathersFrom (S.outside system.now) (G.facts system.now) most server.old server.new port.old port.new replies.old replies.new timeline.old timeline.new result }
+    ensures seats { AreSeats (S.outside system.now) (G.facts system.now) server.new }
 {
     let mut buffer = [0u8; 64];
     replies.clear();
     while replies.len() < most {
-        match receive_next(system, timeline, port, replies.len() == 0, &mut buffer) {
+        match receive_next(system, timeline, port, replies.is_empty(), &mut buffer) {
             Ok(Some(length)) => {
                 let sender = system.sender(port);
                 hear_one(server, system, timeline, &buffer[..length], sender, replies);
             }
             Ok(None) => return true,
-            Err(_) => return replies.len() > 0,
+            Err(_) => return !replies.is_empty(),
         }
     }
     true

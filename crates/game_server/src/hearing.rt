@@ -23,8 +23,8 @@ fn seat_for<'a, S: System, G: Games<S> + Drop>(
     timeline: &mut S::Timeline,
     message: &Message,
 ) -> Result<Seat<'a, S::File>, OpenGameError>
-    requires { AreSeats (S.outside system.now) G.facts server.old }
-    ensures made { AddsSome (S.outside system.now) timeline.old timeline.new (SeatsFor (S.outside system.now) G.facts server.old server.new message.now result) }
+    requires { AreSeats (S.outside system.now) (G.facts system.now) server.old }
+    ensures made { AddsSome (S.outside system.now) timeline.old timeline.new (SeatsFor (S.outside system.now) (G.facts system.now) server.old server.new message.now result) }
 {
     match take_out(&mut server.seats, message.stamp()) {
         Some(seat) => Ok(seat),
@@ -41,8 +41,8 @@ fn answer_at<'a, S: System, G: Games<S> + Drop>(
     message: &Message,
 ) -> Reply
     requires absent { open_at server.old (stamp_in message.now) ≡ None }
-    requires seated { IsSeat (S.outside system.now) G.facts server.old.games server.old.tables (stamp_in message.now) seat }
-    ensures made { AnswersFromIn (S.outside system.now) G.facts server.old server.new seat.entry message.now timeline.old timeline.new result }
+    requires seated { IsSeat (S.outside system.now) (G.facts system.now) server.old.games server.old.tables (stamp_in message.now) seat }
+    ensures made { AnswersFromIn (S.outside system.now) (G.facts system.now) server.old server.new seat.entry message.now timeline.old timeline.new result }
 {
     let mut seat = seat;
     let (reply, stays) = deliver(server, system, timeline, &mut seat, message);
@@ -59,8 +59,8 @@ fn answer<'a, S: System, G: Games<S> + Drop>(
     timeline: &mut S::Timeline,
     message: &Message,
 ) -> Reply
-    requires { AreSeats (S.outside system.now) G.facts server.old }
-    ensures made { AnswersMessageIn (S.outside system.now) G.facts server.old server.new message.now timeline.old timeline.new result }
+    requires { AreSeats (S.outside system.now) (G.facts system.now) server.old }
+    ensures made { AnswersMessageIn (S.outside system.now) (G.facts system.now) server.old server.new message.now timeline.old timeline.new result }
 {
     match seat_for(server, system, timeline, message) {
         Ok(seat) => answer_at(server, system, timeline, seat, message),
@@ -77,8 +77,8 @@ pub fn hear<'a, S: System, G: Games<S> + Drop>(
     timeline: &mut S::Timeline,
     bytes: &[u8],
 ) -> Reply
-    requires { AreSeats (S.outside system.now) G.facts server.old }
-    ensures made { AddsSome (S.outside system.now) timeline.old timeline.new (HearsDatagram (S.outside system.now) G.facts server.old server.new bytes.now result) }
+    requires { AreSeats (S.outside system.now) (G.facts system.now) server.old }
+    ensures made { AddsSome (S.outside system.now) timeline.old timeline.new (HearsDatagram (S.outside system.now) (G.facts system.now) server.old server.new bytes.now result) }
 {
     match Message::decode(bytes) {
         Ok(message) => answer(server, system, timeline, &message),

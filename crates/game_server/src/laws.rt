@@ -7,5 +7,5 @@ use timeline::System;
 
 /// Each acknowledgement of a run comes after a record was kept or found that has its moves, and each verdict after one with it.
 pub fn acks_are_earned<S: System, G: Games<S>>(_system: &S)
-    ensures { AcksAreEarned (S.outside _system.now) G.facts }
+    ensures { AcksAreEarned (S.outside _system.now) (G.facts _system.now) }
 {}

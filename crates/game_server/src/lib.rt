@@ -9,10 +9,11 @@
 //! Nothing uses this crate yet: it is to take the place of both servers of `arbiter_server`.
 //!
 //! Inside: `seat` (a game that is open), `server`, `room`, `lookup`, `seating` (a game is opened, and answers), `hearing` (a datagram),
-//! `replies`, `gathering` (the datagrams of a round), `sending`, `lines` (which are written), `printing`, `running`; `laws`.
+//! `replies`, `gathering` (the datagrams of a round), `sending`, `lines` (which are written), `printing`, `running`, `starting` (a game that
+//! is opened unasked); `laws`.
 //!
 //! Definitions, in reading order: `Seats`, `Fates` (`OpensFor`, `GoesTo`), `Replies`, `Datagrams` (`HearsDatagram`), `Sending`, `Printing`
-//! (`written_text`, `WritesLines`), `Rounds` (`round_events`, `IsRound`), `Runs` (`InTurns`, `Serves`), `Orders` (`IsBacked`, `AcksAreEarned`);
+//! (`written_text`, `WritesLines`), `Rounds` (`round_events`, `IsRound`), `Runs` (`InTurns`, `Serves`), `Starting`, `Orders` (`IsBacked`, `AcksAreEarned`);
 //! for private clauses `Seating`, `Running`.
 //!
 //! - CLAIM: `serve`, clause `run`: all that happens outside are turns. In each, datagrams come, and each is answered by one delivery of the
@@ -26,6 +27,8 @@
 //!   can't be kept is not announced, and its game alone is refused; another game is as it was, or closed.
 //! - CLAIM: `hear`, clause `made`: what the messages of the reply say (`backed`) of a record was put, committed or found where that game's
 //!   record is kept, or is noted for the next commit.
+//! - CLAIM: `open_game`, clause `made`: a game is opened as for a request for its moves, and nothing is sent. `ask`, clause `made`: the
+//!   request for moves of an open game goes to each recipient.
 //! - CLAIM: `PortServer::open`: no game is open yet (the error has no cause).
 #![tactic(auto)]
 
@@ -42,6 +45,7 @@ mod seat;
 mod seating;
 mod sending;
 mod server;
+mod starting;
 
 pub use hearing::hear;
 pub use lines::Lines;
@@ -49,3 +53,4 @@ pub use replies::{Held, Replies};
 pub use running::{PortServer, serve};
 pub use seat::{Reply, Seat};
 pub use server::Server;
+pub use starting::{ask, open_game};

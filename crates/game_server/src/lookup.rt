@@ -31,7 +31,7 @@ pub(crate) fn found<S: System, G: Games<S>>(
     manifest: &[u8],
     stamp: Stamp,
 ) -> Result<GameConfig, OpenGameError>
-    ensures made { AddsSome (S.outside system.now) timeline.old timeline.new (LooksUp G.facts games.now manifest.now stamp result) }
+    ensures made { AddsSome (S.outside system.now) timeline.old timeline.new (LooksUp (G.facts system.now) games.now manifest.now stamp result) }
 {
     let game = match games.find(alloc, system, timeline, stamp) {
         Ok(game) => game,

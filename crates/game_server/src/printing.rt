@@ -1,7 +1,6 @@
 //! The lines of a round are written, and go out.
 
-ghost use Rattle.std.specs.Prelude.{◌≡◌, [], ◌∷◌, List, ℕ, Ok, Err, OnErr};
-ghost use Rattle.arbiter_server.specs.declared.fault.Uncommitted.TheVariants.{OutOfMemory};
+ghost use Rattle.std.specs.Prelude.{◌≡◌, [], ◌∷◌, List, ℕ, OnErr};
 ghost use Rattle.timeline.specs.Events.{is_done};
 ghost use Rattle.timeline.specs.Outsides.{AddsSome};
 ghost use Rattle.game_server.specs.Printing.{KnowsLines, OutputFails};
@@ -10,7 +9,7 @@ ghost use Rattle.game_server.specs.Inside.Running.{IsTextEnd, WritesAll, held_li
 
 use crate::lines::Lines;
 use crate::replies::Held;
-use arbiter_server::Line;
+use arbiter_server::{Line, OpenGameError};
 use system_io::WriteFault;
 use timeline::{Stream, System};
 
@@ -45,6 +44,18 @@ pub(crate) fn print_line<S: System>(
     }
 }
 
+/// The line of a datagram whose answer is withheld, since memory was refused to commit what its game keeps.
+fn withheld(line: Line) -> Line
+    ensures { result ≡ withheld_line line }
+{
+    match line {
+        Line::Answered(stamp, _) | Line::Unopened(stamp, _) => {
+            Line::Unopened(stamp, OpenGameError::OutOfMemory)
+        }
+        Line::Unread(_) | Line::PortLost | Line::StoreLost | Line::MemoryLost => line,
+    }
+}
+
 /// The line of a datagram, whose answer is sent or withheld.
 fn line_of(held: &Held, is_sent: bool) -> Line
     ensures { result ≡ held_line is_sent held.now }
@@ -52,7 +63,7 @@ fn line_of(held: &Held, is_sent: bool) -> Line
     if is_sent {
         held.reply.line
     } else {
-        held.reply.line.withheld()
+        withheld(held.reply.line)
     }
 }
 

@@ -1,7 +1,7 @@
 //! The replies of a round, held until what they rest on is committed.
 
 ghost use Rattle.std.specs.NonZero.{non_zero_usize_get};
-ghost use Rattle.std.specs.Prelude.{◌≡◌, ◌<◌, ◌++◌, ◌∷◌, [], IfOk, length};
+ghost use Rattle.std.specs.Prelude.{◌≡◌, ◌<◌, ◌==◌, ◌++◌, ◌∷◌, [], IfOk, length};
 
 use crate::seat::Reply;
 use std::alloc::{AllocError, Global};
@@ -38,7 +38,7 @@ impl Model for Replies {
 impl Replies {
     /// None is held yet. The error comes where memory for so many is refused.
     pub(crate) fn new(alloc: Global, most: NonZeroUsize) -> Result<Replies, AllocError>
-        ensures { IfOk result (λ r. r ≡ record { held = []; most = non_zero_usize_get most.entry }) }
+        ensures { IfOk result (λ r. r ≡ record { held = []; most = non_zero_usize_get most }) }
     {
         let held = Vec::with_capacity(alloc, most.get())?;
         Ok(Replies { held, most })
@@ -57,6 +57,13 @@ impl Replies {
         ensures { result ≡ length self.now.held }
     {
         self.held.len()
+    }
+
+    /// Whether none is held.
+    pub(crate) fn is_empty(&self) -> bool
+        ensures { result ≡ (length self.now.held == 0) }
+    {
+        self.held.is_empty()
     }
 
     /// Those that are held, in order.

@@ -13,7 +13,7 @@ use crate::gathering::gather;
 use crate::lines::Lines;
 use crate::printing::{print_line, print_lines};
 use crate::replies::Replies;
-use crate::sending::send_replies;
+use crate::sending::send_if;
 use crate::server::Server;
 use arbiter_server::{Line, LineLog, ServerConfig, Uncommitted};
 use game_folder::Games;
@@ -97,9 +97,7 @@ fn conclude<S: System>(
     ensures made { (before : List (List ℕ)) → KnowsLines lines.old before → ConcludesRound (S.outside system.now) before ((S.outside system.now).port port.old).to are_sent replies.now.held lines.old lines.new timeline.old timeline.new result }
     ensures cause { OnErr result (OutputFails (S.outside system.now)) }
 {
-    if are_sent {
-        send_replies(system, timeline, port, replies.held());
-    }
+    send_if(system, timeline, port, replies.held(), are_sent);
     match print_lines(system, timeline, lines, replies.held(), are_sent) {
         Ok(()) => Ok(AfterRound::GoesOn(replies.len())),
         Err(fault) => Err(fault),
@@ -115,12 +113,12 @@ fn round<'a, S: System, G: Games<S> + Drop>(
     port: &mut S::Port,
     most: usize,
 ) -> Result<AfterRound, WriteFault>
-    requires seats { AreSeats (S.outside system.now) G.facts at.old.server }
+    requires seats { AreSeats (S.outside system.now) (G.facts system.now) at.old.server }
     requires some { 0 < most }
     requires few { most ≤ at.old.replies.most }
-    ensures seats { AreSeats (S.outside system.now) G.facts at.new.server }
+    ensures seats { AreSeats (S.outside system.now) (G.facts system.now) at.new.server }
     ensures same { SendsToSame ((S.outside system.now).port port.old) ((S.outside system.now).port port.new) }
-    ensures made { (before : List (List ℕ)) → KnowsLines at.old.lines before → TakesTurn (S.outside system.now) G.facts before most at.old at.new port.old timeline.old timeline.new result }
+    ensures made { (before : List (List ℕ)) → KnowsLines at.old.lines before → TakesTurn (S.outside system.now) (G.facts system.now) before most at.old at.new port.old timeline.old timeline.new result }
     ensures most { at.new.replies.most ≡ at.old.replies.most }
     ensures cause { OnErr result (OutputFails (S.outside system.now)) }
 {
@@ -163,11 +161,11 @@ pub fn serve<'a, S: System, G: Games<S> + Drop>(
     port: &mut S::Port,
     n: u64,
 ) -> Result<u8, WriteFault>
-    requires seats { AreSeats (S.outside system.now) G.facts at.old.server }
+    requires seats { AreSeats (S.outside system.now) (G.facts system.now) at.old.server }
     requires none { KnowsLines at.old.lines [] }
-    ensures run { Serves (S.outside system.now) G.facts at.old.replies.most (form_in at.old.lines) [] n ((S.outside system.now).port port.old).to at.old.server at.new.server timeline.old timeline.new result }
-    ensures earned { EarnsFrom (S.outside system.now) G.facts at.old.server at.new.server timeline.old timeline.new }
-    ensures seats { AreSeats (S.outside system.now) G.facts at.new.server }
+    ensures run { Serves (S.outside system.now) (G.facts system.now) at.old.replies.most (form_in at.old.lines) [] n ((S.outside system.now).port port.old).to at.old.server at.new.server timeline.old timeline.new result }
+    ensures earned { EarnsFrom (S.outside system.now) (G.facts system.now) at.old.server at.new.server timeline.old timeline.new }
+    ensures seats { AreSeats (S.outside system.now) (G.facts system.now) at.new.server }
     ensures cause { OnErr result (OutputFails (S.outside system.now)) }
 {
     let mut left = n;

@@ -42,9 +42,9 @@ fn open_over<'a, S: System, G: Games<S> + Drop>(
     game: GameConfig,
 ) -> Result<Seat<'a, S::File>, OpenGameError>
     requires game { IsGameOf server.old.config.manifest.now kept.stamp game.name.items game.start game.delay }
-    requires within { IsKeptIn (S.outside system.now) (G.facts.places (G.facts.place server.old.games) kept.stamp) kept.file }
+    requires within { IsKeptIn (S.outside system.now) ((G.facts system.now).places ((G.facts system.now).place server.old.games) kept.stamp) kept.file }
     requires clean { kept.draft.to_put ≡ None }
-    ensures made { AddsSome (S.outside system.now) timeline.old timeline.new (OpensOverKept (S.outside system.now) G.facts server.old server.new kept game result) }
+    ensures made { AddsSome (S.outside system.now) timeline.old timeline.new (OpensOverKept (S.outside system.now) (G.facts system.now) server.old server.new kept game result) }
 {
     let GameConfig { name, start, delay } = game;
     let terms = Terms {
@@ -73,7 +73,7 @@ fn open_found<'a, S: System, G: Games<S> + Drop>(
     game: GameConfig,
 ) -> Result<Seat<'a, S::File>, OpenGameError>
     requires { IsGameOf server.old.config.manifest.now stamp game.name.items game.start game.delay }
-    ensures made { AddsSome (S.outside system.now) timeline.old timeline.new (OpensTaken (S.outside system.now) G.facts server.old server.new stamp game result) }
+    ensures made { AddsSome (S.outside system.now) timeline.old timeline.new (OpensTaken (S.outside system.now) (G.facts system.now) server.old server.new stamp game result) }
 {
     match server.games.take(server.alloc, system, timeline, stamp) {
         Ok(kept) => open_over(server, system, timeline, kept, game),
@@ -88,7 +88,7 @@ pub(crate) fn open_for<'a, S: System, G: Games<S> + Drop>(
     timeline: &mut S::Timeline,
     message: &Message,
 ) -> Result<Seat<'a, S::File>, OpenGameError>
-    ensures made { OpensForIn (S.outside system.now) G.facts server.old server.new message.now timeline.old timeline.new result }
+    ensures made { OpensForIn (S.outside system.now) (G.facts system.now) server.old server.new message.now timeline.old timeline.new result }
 {
     if !opens_game(message) {
         return Err(OpenGameError::NotOpen);
@@ -127,8 +127,8 @@ pub(crate) fn deliver<'a, S: System, G: Games<S> + Drop>(
     seat: &mut Seat<'a, S::File>,
     message: &Message,
 ) -> (Reply, bool)
-    requires { IsSeat (S.outside system.now) G.facts server.old.games server.old.tables (stamp_in message.now) seat.old }
-    ensures made { DeliversIn (S.outside system.now) G.facts server.old server.new seat.old seat.new message.now timeline.old timeline.new result }
+    requires { IsSeat (S.outside system.now) (G.facts system.now) server.old.games server.old.tables (stamp_in message.now) seat.old }
+    ensures made { DeliversIn (S.outside system.now) (G.facts system.now) server.old server.new seat.old seat.new message.now timeline.old timeline.new result }
 {
     let stamp = message.stamp();
     match seat.state.deliver(

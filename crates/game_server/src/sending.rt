@@ -1,5 +1,6 @@
 //! What a server sends at a port.
 
+ghost use Rattle.std.specs.Prelude.{◌≡◌, [], cond, true};
 ghost use Rattle.move_msg.specs.Messages.{SpellsMessage, message_text};
 ghost use Rattle.timeline.specs.Outsides.{Adds, HeardNothing, SendsToSame};
 ghost use Rattle.game_server.specs.Sending.{AllSpelled, address_of, message_sent, sent};
@@ -40,7 +41,7 @@ fn send_all<S: System>(
 }
 
 /// Sends the messages of each reply, in order. Where a port sends to the sender of a datagram, each goes to that of its own.
-pub(crate) fn send_replies<S: System>(
+fn send_replies<S: System>(
     system: &S,
     timeline: &mut S::Timeline,
     port: &mut S::Port,
@@ -53,5 +54,22 @@ pub(crate) fn send_replies<S: System>(
     for one in held {
         system.answer(port, one.sender);
         send_all(system, timeline, port, one.reply.outputs.as_slice());
+    }
+}
+
+/// Sends the replies of a round, or withholds them.
+pub(crate) fn send_if<S: System>(
+    system: &S,
+    timeline: &mut S::Timeline,
+    port: &mut S::Port,
+    held: &[Held],
+    are_sent: bool,
+)
+    ensures same { SendsToSame ((S.outside system.now).port port.old) ((S.outside system.now).port port.new) }
+    ensures spelled { are_sent ≡ true → AreSpelled held.now }
+    ensures made { Adds (S.outside system.now) timeline.old timeline.new (cond are_sent (all_sent ((S.outside system.now).port port.old).to held.now) []) }
+{
+    if are_sent {
+        send_replies(system, timeline, port, held);
     }
 }

@@ -111,6 +111,7 @@ pub record GathersFrom {T P F K S L G : Type 0} (o : Outside T P F K S L) (facts
 pub record EndsTurn {T P F K S L : Type 0} (o : Outside T P F K S L) (before : List (List ℕ)) (old new : Lines) (line : Line) (t t' : T) (result : Result AfterRound WriteFault) : Type 0 where
   pub made : AddsSome o t t' (WritesLines (form_in old) before (line ∷ []) (is_done result))
   pub stops : OnOk result (result ≡ Ok Stops)
+  pub same : form_in new ≡ form_in old
 
 -- replies are sent or withheld, and then their lines are written
 pub record ConcludesRound {T P F K S L : Type 0} (o : Outside T P F K S L) (before : List (List ℕ)) (to : List Recipient) (is_sent : Bool) (held : List Held) (old new : Lines) (t t' : T) (result : Result AfterRound WriteFault) : Type 0 where

@@ -18,7 +18,7 @@ use Rattle.timeline.specs.Events.{Event}
 use Rattle.timeline.specs.Outsides.{AddsSome, Outside}
 use Rattle.game_server.specs.Datagrams.{HearsDatagram, IsLeftOpen}
 use Rattle.game_folder.specs.Drafts.{DraftView, draft_facts, settled}
-use Rattle.game_server.specs.Fates.{Answered, AnswersBy, HasGame, OpensFor, OpensSeat, TakesAndOpens}
+use Rattle.game_server.specs.Fates.{Answered, AnswersBy, HasGame, OpensFor, OpensSeat, TakesAndOpens, is_unput}
 use Rattle.game_folder.specs.Holdings.{GamesFacts, IsKnown, IsQuiet, SendsNothing, StaysNoted, known}
 use Rattle.game_server.specs.Replies.{AreBacked, IsReply}
 use Rattle.game_server.specs.Seats.{AreKnown, IsKnownSeat, IsSeat, SameSeats, common, open_at, seat_moment}
@@ -92,6 +92,7 @@ pub record DeliversTo {T P F K S L G : Type 0} (o : Outside T P F K S L) (facts 
   pub answers : AnswersBy facts old.games (stamp_in m) (seat_moment old.tables seat) m told after is_kept events
   pub left : seat_moment old.tables seat' ≡ moment after.arbiter (settled after.keeper)
   pub reply : (datagram : List ℕ) → IsReply result.0 (Answered (stamp_in m) (exchange datagram told after) is_kept)
+  pub closed : is_unput after.keeper.to_put is_kept told ≡ true → result.1 ≡ false
   pub seated : result.1 ≡ true → IsSeat o facts new.games old.tables (stamp_in m) seat'
   pub backed : (before : List Event) → IsKnownSeat facts old.games before (stamp_in m) seat → AreBacked facts new.games (before ++ events) result.0.outputs.items
   pub knows : (before : List Event) → IsKnownSeat facts old.games before (stamp_in m) seat → result.1 ≡ true → IsKnownSeat facts new.games (before ++ events) (stamp_in m) seat'
@@ -132,6 +133,7 @@ pub record AnswersFrom {T P F K S L G : Type 0} (o : Outside T P F K S L) (facts
   pub is_kept : Bool
   pub answers : AnswersBy facts old.games (stamp_in m) (seat_moment old.tables seat) m told after is_kept events
   pub is : (datagram : List ℕ) → IsReply reply (Answered (stamp_in m) (exchange datagram told after) is_kept)
+  pub closed : is_unput after.keeper.to_put is_kept told ≡ true → open_at new (stamp_in m) ≡ None
   pub own : IsSeatedNow o facts old.games new.games old.tables (stamp_in m) seat (moment after.arbiter (settled after.keeper)) events (open_at new (stamp_in m))
   pub others : (other : List ℕ) → bytes_eq (stamp_in m) other ≡ false → IsLeftOpen (open_at old other) (open_at new other)
   pub backed : (before : List Event) → IsKnownSeat facts old.games before (stamp_in m) seat → AreBacked facts new.games (before ++ events) reply.outputs.items

@@ -8,5 +8,5 @@ returns-in-Ok g c = let p = c.answer.ensures.made in record { made = (p.0, p.1, 
 
 pub returns-in-Err : goal.returns-in-Err
 returns-in-Err g c = record {
-  made = heard_unread (g.S.System.outside c.args.system.now) g.G.Games.facts c.args.server.now c.args.bytes.now c.in-Err.fault _ c.args.timeline.now c.requires (sym c.in-Err.ensures.computed) c.line_alone.ensures.outputs (ap line_words c.line_alone.ensures.line);
+  made = heard_unread (g.S.System.outside c.args.system.now) (g.G.Games.facts c.args.system.now) c.args.server.now c.args.bytes.now c.in-Err.fault _ c.args.timeline.now c.requires (sym c.in-Err.ensures.computed) c.line_alone.ensures.outputs (ap line_words c.line_alone.ensures.line);
 }

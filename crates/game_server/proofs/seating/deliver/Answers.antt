@@ -23,7 +23,7 @@ use Rattle.game_server.proofs.seating.deliver.Goals as goal
 pub returns-in-Ok-keep : goal.returns-in-Ok-keep
 returns-in-Ok-keep g c =
     let o = g.S.System.outside c.args.system.now in
-    let facts = g.G.Games.facts in
+    let facts = (g.G.Games.facts c.args.system.now) in
     let old = c.args.server.now in
     let seat = c.args.seat.now in
     let stamp = stamp_in c.args.message.now in
@@ -50,6 +50,7 @@ returns-in-Ok-keep g c =
           left = ap (moment (awake c.deliver.new.self old.tables)) k.draft;
           reply = λ datagram. let f = fate_kept stamp (exchange datagram (Ok outputs) after) (put_if_any draft.to_put outputs) in
               record { outputs = sym f.0; line = ap₂ stamped c.stamp-stamp.ensures (ap₂ heard_words c.count.ensures.is c.verdict.ensures) ∙ sym f.1 };
+          closed = λ lost. absurd (false≢true (sym (put_if_any draft.to_put outputs) ∙ lost));
           seated = λ yes. is_seat o facts old.games c.keep.new.self old.tables stamp seat seat' (Ok outputs) draft c.requires a k.draft c.in-Ok.ensures.keeps k.of k.within c.in-Ok.ensures.wakes;
           backed = λ before knew. are_backed o facts old.games c.keep.new.self old.tables stamp seat seat' (Ok outputs) draft c.requires a k.draft c.in-Ok.ensures.keeps k.still.place k.noted before h.0
               (λ bytes some. subst (λ (s : List ℕ). known facts c.keep.new.self h.0 s bytes) of (kept_known o facts _ _ _ _ _ h.0 k bytes some)) knew outputs refl;
@@ -62,7 +63,7 @@ returns-in-Ok-keep g c =
 pub returns-in-Err-keep : goal.returns-in-Err-keep
 returns-in-Err-keep g c =
     let o = g.S.System.outside c.args.system.now in
-    let facts = g.G.Games.facts in
+    let facts = (g.G.Games.facts c.args.system.now) in
     let old = c.args.server.now in
     let stamp = stamp_in c.args.message.now in
     let outputs = c.in-Ok.outputs.items in
@@ -87,6 +88,7 @@ returns-in-Err-keep g c =
           left = ap (moment (awake c.deliver.new.self old.tables)) k.draft;
           reply = λ datagram. let f = fate_lost stamp (exchange datagram (Ok outputs) after) (ap (λ (p : Option (List ℕ)). is_unput p false (Ok outputs)) lost.1) in
               record { outputs = c.line_alone.ensures.outputs ∙ sym f.0; line = ap line_words c.line_alone.ensures.line ∙ (ap (λ (s : List ℕ). stamped s refused_keeper) c.stamp-stamp.ensures ∙ sym f.1) };
+          closed = λ gone. refl;
           seated = λ yes. absurd (false≢true yes);
           backed = λ before knew. subst (λ (ms : List Message). AreBacked facts c.keep.new.self (before ++ h.0) ms) (sym c.line_alone.ensures.outputs) tt;
           knows = λ before knew yes. absurd (false≢true yes);
@@ -97,7 +99,7 @@ returns-in-Err-keep g c =
 pub returns-in-Err : goal.returns-in-Err
 returns-in-Err g c =
     let o = g.S.System.outside c.args.system.now in
-    let facts = g.G.Games.facts in
+    let facts = (g.G.Games.facts c.args.system.now) in
     let old = c.args.server.now in
     let seat = c.args.seat.now in
     let stamp = stamp_in c.args.message.now in
@@ -121,6 +123,7 @@ returns-in-Err g c =
           answers = record { answers = c.in-Err.ensures.answers; kept = refl };
           left = ap (moment (awake c.deliver.new.self old.tables)) (clean_draft draft clean);
           reply = λ datagram. record { outputs = out; line = ap line_words c.line_alone-in-Err.ensures.line ∙ ap₂ stamped c.stamp-stamp.ensures c.refused.ensures };
+          closed = λ lost. absurd (false≢true lost);
           seated = λ yes. is_seat o facts old.games old.games old.tables stamp seat seat' (Err c.in-Err.fault) draft c.requires a (clean_draft draft clean) c.in-Err.ensures.keeps refl
               (subst (λ (s : List ℕ). IsKeptIn o (facts.places (facts.place old.games) s) seat.kept.file) (sym c.requires.of) c.requires.within) c.in-Err.ensures.wakes;
           backed = λ before knew. subst (λ (ms : List Message). AreBacked facts old.games (before ++ []) ms) (sym out) tt;

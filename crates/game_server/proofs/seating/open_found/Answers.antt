@@ -6,12 +6,12 @@ use Rattle.game_server.proofs.seating.open_found.Goals as goal
 
 pub returns-in-Ok : goal.returns-in-Ok
 returns-in-Ok g c = record {
-  made = takes_then (g.S.System.outside c.args.system.now) g.G.Games.facts c.args.server.now _ c.take.new.self c.args.game _ c.args.stamp c.in-Ok.kept c.args.timeline.now c.take.new.timeline c.open_over.new.timeline c.in-Ok.ensures.made c.open_over.ensures.made;
+  made = takes_then (g.S.System.outside c.args.system.now) (g.G.Games.facts c.args.system.now) c.args.server.now _ c.take.new.self c.args.game _ c.args.stamp c.in-Ok.kept c.args.timeline.now c.take.new.timeline c.open_over.new.timeline c.in-Ok.ensures.made c.open_over.ensures.made;
 }
 
 pub returns-in-Err : goal.returns-in-Err
 returns-in-Err g c = record {
-  made = takes_none (g.S.System.outside c.args.system.now) g.G.Games.facts c.args.server.now _ c.take.new.self c.args.game _ c.args.stamp c.in-Err.why c.args.timeline.now c.take.new.timeline refl refl c.in-Err.ensures.made;
+  made = takes_none (g.S.System.outside c.args.system.now) (g.G.Games.facts c.args.system.now) c.args.server.now _ c.take.new.self c.args.game _ c.args.stamp c.in-Err.why c.args.timeline.now c.take.new.timeline refl refl c.in-Err.ensures.made;
 }
 
 pub open_over-requires-clause-game : goal.open_over-requires-clause-game
@@ -20,7 +20,7 @@ open_over-requires-clause-game g c = subst (λ (s : List ℕ). IsGameOf c.args.s
 pub open_over-requires-clause-within : goal.open_over-requires-clause-within
 open_over-requires-clause-within g c =
     let o = g.S.System.outside c.args.system.now in
-    let facts = g.G.Games.facts in
+    let facts = (g.G.Games.facts c.args.system.now) in
     let ok = c.in-Ok.ensures.made.2.ok in
     subst (λ (s : List ℕ). IsKeptIn o (facts.places (facts.place c.take.new.self) s) c.in-Ok.kept.file) (sym ok.of) ok.within
 

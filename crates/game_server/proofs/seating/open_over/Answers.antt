@@ -14,7 +14,7 @@ use Rattle.game_server.proofs.seating.open_over.Goals as goal
 pub returns-in-Ok-keep : goal.returns-in-Ok-keep
 returns-in-Ok-keep g c =
     let o = g.S.System.outside c.args.system.now in
-    let facts = g.G.Games.facts in
+    let facts = (g.G.Games.facts c.args.system.now) in
     let old = c.args.server.now in
     let h = c.in-Ok-keep.ensures.made in
     let k = h.2 in
@@ -49,7 +49,7 @@ returns-in-Ok-keep g c =
 pub returns-in-Ok : goal.returns-in-Ok
 returns-in-Ok g c =
     let o = g.S.System.outside c.args.system.now in
-    let facts = g.G.Games.facts in
+    let facts = (g.G.Games.facts c.args.system.now) in
     let old = c.args.server.now in
     let h = c.in-Err-keep.ensures.made in
     let k = h.2 in

@@ -1,0 +1,4 @@
+pub mod FolderLaws
+pub mod NotedLaws
+pub mod RecordLaws
+pub mod StoreLaws

@@ -1,0 +1,12 @@
+pub mod Carrying
+pub mod Opening
+pub mod Going
+pub mod Playing
+pub mod Running
+pub mod Telling
+pub mod Lasting
+pub mod Finding
+pub mod Asides
+pub mod Following
+pub mod Enduring
+pub mod Lost

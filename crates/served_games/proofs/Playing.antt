@@ -1,0 +1,304 @@
+-- What one game does at one datagram.
+use Rattle.std.proofs.Common.{◌≡◌, ◌⊎◌, inl, inr, ◌∙◌, ℕ, Bool, true, false, cond, List, [], ◌∷◌, ◌++◌, Option, Some, None, refl, sym, ap, subst, append-nil, arith}
+use Rattle.std.specs.Prelude.{Result, Ok, Err}
+use Rattle.arbiter_core.specs.Delivers.{Exchange, Moment, ReturnsAnswer, Told, answer_at, answer_of, answer_to_any, exchange, in_game, moment}
+use Rattle.arbiter_core.specs.Answering.{Answer}
+use Rattle.arbiter_core.specs.Opens.{IsOpening}
+use Rattle.arbiter_core.specs.Views.{View}
+use Rattle.arbiter_core.specs.declared.fault.OpenFault.{OpenFault}
+use Rattle.arbiter_core.specs.declared.fault.OpenFault.TheVariants.{KeeperFailed}
+use Rattle.arbiter_server.specs.Acts.{Strange, Refuses, Opens, Answers, Closes, DatagramReply, Opening, exchange_reply, opens_by, opens_for, opens_game, unopened}
+use Rattle.arbiter_server.specs.Games.{CommonView, Fresh, IsAnother, IsGameOf, IsNotOpen, IsOver, IsRefused, IsStrange, Open, OpensTo, Shut, life_after, life_at, setup_of}
+use Rattle.arbiter_server.specs.ServedLines.{refused_keeper}
+use Rattle.arbiter_server.specs.Serving.{line_for, line_of, outputs_of}
+use Rattle.arbiter_server.specs.Told.{stamped, unopened_by}
+use Rattle.arbiter_server.specs.declared.fault.OpenGameError.{OpenGameError}
+use Rattle.arbiter_server.specs.declared.fault.OpenGameError.TheVariants as why_not
+use Rattle.arbiter_server.specs.declared.games.GameConfig.{GameConfig}
+use Rattle.move_msg.specs.Heard.{heard_in}
+use Rattle.move_msg.specs.Messages.{stamp_in}
+use Rattle.move_msg.specs.declared.message.Message.{Message}
+use Rattle.move_msg.specs.declared.message.MessageFault.{MessageFault}
+use Rattle.timeline.specs.Events.{Event}
+use Rattle.game_folder.specs.Drafts.{DraftView, draft_facts, settled}
+use Rattle.game_folder.specs.Holdings.{GamesFacts}
+use Rattle.game_server.specs.Datagrams.{IsLeftOpen}
+use Rattle.game_server.specs.Fates.{Answered, AnswersBy, Fate, GoesTo, HasGame, IsAnswered, IsFound, IsOther, IsUnopened, IsUnread, NotFound, OpensFor, OpensNone, OpensSeat, SeatOpened, SeatRefused, SeatUnkept, TakesAndOpens, TakesNone, TakesOne, Unopened, fate_leaves, fate_line, fate_outputs, found_draft, is_unput}
+use Rattle.served_games.specs.PlaceKeepers.{PlaceKeeper, found_keeper, has_failed, place_facts, place_keepers}
+use Rattle.served_games.specs.ServedGames.{GoesOn, IsAt, IsOpenAt, IsOverLeft, Looked, LooksInVain, NothingPut, NotLooked, NotTaken, OpensBy, PutFails, PutsBy, is_lost}
+use Rattle.served_games.proofs.Carrying.{Carried, carried}
+use Rattle.served_games.proofs.Going.{Acts, Life, on_join, on_nothing}
+use Rattle.served_games.proofs.Opening.{IsOpened, opened, opening_refused, opening_unkept}
+
+abbrev pub reply_with : List ℕ → List Message → List ℕ → DatagramReply
+reply_with datagram outputs line = record { datagram = datagram; outputs = outputs; line = line }
+
+module _ {G : Type 0} (facts : GamesFacts G) (t : CommonView) (g : G) where
+  abbrev place : facts.Place
+  place = facts.place g
+
+  -- the game goes on so, to where it is at the server
+  pub record Next (stamp : List ℕ) (life : Life) (replies : List DatagramReply) (events : List Event) (now : Option (Moment DraftView)) : Type 0 where
+    pub acts : Acts
+    pub to : Life
+    pub on : GoesOn facts place t stamp life acts replies events to
+    pub at : IsAt now to
+
+  -- ---- it is closed, or left alone
+
+  closing : (stamp : List ℕ) (now : Moment PlaceKeeper) → GoesOn facts place t stamp (Open now) (Closes stamp now.keeper ∷ []) [] [] (Shut now.keeper)
+  closing stamp now = record { goes = λ _. (Shut now.keeper, (refl, refl), refl); leads = refl; own = (refl, tt); replies_are = refl; makes = ([], [], refl, (refl, refl), refl) }
+
+  closed : (stamp : List ℕ) (life : Life) → Next stamp life [] [] None
+  closed stamp Fresh = record { acts = []; to = Fresh; on = on_nothing facts place t stamp Fresh; at = tt }
+  closed stamp (Shut left) = record { acts = []; to = Shut left; on = on_nothing facts place t stamp (Shut left); at = tt }
+  closed stamp (Open now) = record { acts = Closes stamp now.keeper ∷ []; to = Shut now.keeper; on = closing stamp now; at = tt }
+
+  pub aside : (stamp : List ℕ) (life : Life) (was now : Option (Moment DraftView)) → IsAt was life → IsLeftOpen was now → Next stamp life [] [] now
+  aside stamp life was now at (inl same) = record { acts = []; to = life; on = on_nothing facts place t stamp life; at = subst (λ (w : Option (Moment DraftView)). IsAt w life) (sym same) at }
+  aside stamp life was now at (inr none) = subst (Next stamp life [] []) (sym none) (closed stamp life)
+
+  module _ (datagram : List ℕ) (m : Message) (is : heard_in datagram ≡ Ok m) where
+    abbrev stamp : List ℕ
+    stamp = stamp_in m
+
+    opens_is : opens_for datagram ≡ opens_game m
+    opens_is = ap opens_by is
+
+    answer_is : (v : View) → answer_to_any v m ≡ answer_at v datagram
+    answer_is v = ap (λ (r : Result Message MessageFault). answer_of v (in_game v.me.stamp r)) (sym is)
+
+    -- ---- an arbiter answers
+
+    abbrev pub answer_reply : Moment DraftView → Told → Bool → DatagramReply
+    answer_reply after told is_kept =
+        reply_with datagram (cond (is_unput after.keeper.to_put is_kept told) [] (outputs_of told)) (stamped stamp (cond (is_unput after.keeper.to_put is_kept told) refused_keeper (line_for told after.arbiter.kept)))
+
+    module _ (here : Moment PlaceKeeper) (told : Told) (after : Moment DraftView) (is_kept : Bool) (events : List Event) (c : Carried facts place stamp here.arbiter here.keeper (answer_at here.arbiter datagram) told after is_kept events) (unkept : here.keeper.unkept ≡ None) where
+      abbrev lost : Bool
+      lost = is_unput after.keeper.to_put is_kept told
+
+      abbrev e : Exchange PlaceKeeper
+      e = exchange datagram c.told_is c.after_is
+
+      reply_is : exchange_reply stamp e ≡ answer_reply after told is_kept
+      reply_is = ap (λ (o : List Message). reply_with datagram o (stamped stamp (line_of e))) c.outputs ∙ ap (λ (l : List ℕ). reply_with datagram (cond lost [] (outputs_of told)) (stamped stamp l)) c.line
+
+      one_answer : GoesOn facts place t stamp (Open here) (Answers stamp e ∷ []) (answer_reply after told is_kept ∷ []) events (life_at e.after)
+      one_answer = record {
+        goes = λ _. (life_at e.after, (c.returns, refl), refl);
+        leads = refl;
+        own = (refl, tt);
+        replies_are = ap (λ (r : DatagramReply). r ∷ []) reply_is;
+        makes = (events, [], sym (append-nil events), (c.puts, λ up. c.none (sym c.down ∙ up) unkept), refl);
+      }
+
+      to_life : (b : Bool) → lost ≡ b → life_at e.after ≡ cond b (Shut e.after.keeper) (Open e.after)
+      to_life b at = ap (λ (x : Bool). cond x (Shut e.after.keeper) (Open e.after)) (c.down ∙ at)
+
+      module _ (now : Option (Moment DraftView)) (none : lost ≡ true → now ≡ None) (left : lost ≡ false → IsLeftOpen (Some (moment after.arbiter (settled after.keeper))) now) where
+        kept_on : lost ≡ false → IsLeftOpen (Some (moment after.arbiter (settled after.keeper))) now → Next stamp (Open here) (answer_reply after told is_kept ∷ []) events now
+        kept_on at (inl same) = record {
+          acts = Answers stamp e ∷ [];
+          to = Open e.after;
+          on = subst (GoesOn facts place t stamp (Open here) (Answers stamp e ∷ []) (answer_reply after told is_kept ∷ []) events) (to_life false at) one_answer;
+          at = subst (λ (w : Option (Moment DraftView)). IsAt w (Open e.after)) (sym same) (record { same = c.left at; kept = c.none at unkept; runs = c.down ∙ at });
+        }
+        kept_on at (inr gone) = record {
+          acts = Answers stamp e ∷ Closes stamp e.after.keeper ∷ [];
+          to = Shut e.after.keeper;
+          on = subst (λ (l : List Event). GoesOn facts place t stamp (Open here) (Answers stamp e ∷ Closes stamp e.after.keeper ∷ []) (answer_reply after told is_kept ∷ []) l (Shut e.after.keeper)) (append-nil events)
+              (on_join facts place t stamp (Open here) (Open e.after) (Shut e.after.keeper) (Answers stamp e ∷ []) (Closes stamp e.after.keeper ∷ []) (answer_reply after told is_kept ∷ []) [] events []
+              (subst (GoesOn facts place t stamp (Open here) (Answers stamp e ∷ []) (answer_reply after told is_kept ∷ []) events) (to_life false at) one_answer) (closing stamp e.after));
+          at = subst (λ (w : Option (Moment DraftView)). IsAt w (Shut e.after.keeper)) (sym gone) tt;
+        }
+
+        by_lost : (b : Bool) → lost ≡ b → Next stamp (Open here) (answer_reply after told is_kept ∷ []) events now
+        by_lost true at = record {
+          acts = Answers stamp e ∷ [];
+          to = Shut e.after.keeper;
+          on = subst (GoesOn facts place t stamp (Open here) (Answers stamp e ∷ []) (answer_reply after told is_kept ∷ []) events) (to_life true at) one_answer;
+          at = subst (λ (w : Option (Moment DraftView)). IsAt w (Shut e.after.keeper)) (sym (none at)) tt;
+        }
+        by_lost false at = kept_on at (left at)
+
+        answered_on : Next stamp (Open here) (answer_reply after told is_kept ∷ []) events now
+        answered_on = by_lost lost refl
+
+    -- ---- a game that isn't open
+
+    over : (life : Life) (next : PlaceKeeper) → next.unkept ≡ None → IsNotOpen life → IsOverLeft life next → IsOver (place_keepers facts place) stamp life next
+    over Fresh next none shut left = none
+    over (Shut before) next none shut left = (none, left)
+    over (Open at) next none shut left = absurd shut
+
+    module _ (life : Life) (shut : IsNotOpen life) where
+      strange : (why : OpenGameError) (tried : Bool) (events : List Event) → LooksInVain facts place stamp events → IsStrange (place_keepers facts place) t.manifest stamp (opens_for datagram) tried why → Next stamp life (unopened stamp datagram why ∷ []) events None
+      strange why tried events vain s = record {
+        acts = Strange stamp datagram tried why ∷ [];
+        to = life;
+        on = record { goes = λ _. (life, (shut, s, refl), refl); leads = refl; own = (refl, tt); replies_are = refl; makes = (events, [], sym (append-nil events), vain, refl) };
+        at = shut;
+      }
+
+      strange_as : (why : OpenGameError) (tried b : Bool) (events : List Event) → LooksInVain facts place stamp events → opens_game m ≡ b → IsStrange (place_keepers facts place) t.manifest stamp b tried why → Next stamp life (unopened stamp datagram why ∷ []) events None
+      strange_as why tried b events vain at s = strange why tried events vain (subst (λ (x : Bool). IsStrange (place_keepers facts place) t.manifest stamp x tried why) (sym (opens_is ∙ at)) s)
+
+      module _ (game : GameConfig) (looked : List Event) (finds : facts.finds place stamp (Ok game) looked) (game_is : IsGameOf t.manifest stamp game.name.items game.start game.delay) (taken put : List Event) (got : Option (List ℕ)) (takes : facts.takes g stamp (Ok got) taken) where
+        abbrev opening_to : PlaceKeeper → Opening PlaceKeeper
+        opening_to now = record { setup = setup_of t game.name.items game.start game.delay; before = found_keeper got; now = now }
+
+        opens_to : (now : PlaceKeeper) (told : Result View OpenFault) → IsOpening place_facts (setup_of t game.name.items game.start game.delay) (found_keeper got) now told → IsOverLeft life (found_keeper got) → OpensTo (place_keepers facts place) t stamp life (opening_to now) told (life_after now told)
+        opens_to now told h left = record {
+          over = over life (found_keeper got) refl shut left;
+          tells = record { game = game; told = (looked, finds); name = refl; start = refl; delay = refl };
+          game = record { common = refl; game = game_is };
+          opening = h;
+          new_is = refl;
+        }
+
+        opens_by_events : (now : PlaceKeeper) (events : List Event) → events ≡ looked ++ (taken ++ put) → PutsBy facts place stamp (found_keeper got) now put → OpensBy facts place stamp (opening_to now) events
+        opens_by_events now events are puts = record { game = game; looked = looked; finds = finds; games = g; there = refl; taken = taken; takes = takes; put = put; puts = puts; are = are }
+
+        refuses : (now : PlaceKeeper) (fault : OpenFault) (why : OpenGameError) (events : List Event) → why ≡ unopened_by fault → events ≡ looked ++ (taken ++ put) → IsOpening place_facts (setup_of t game.name.items game.start game.delay) (found_keeper got) now (Err fault) → PutsBy facts place stamp (found_keeper got) now put → Next stamp life (unopened stamp datagram why ∷ []) events None
+        refuses now fault why events w are h puts = record {
+          acts = Refuses stamp datagram (opening_to now) fault ∷ [];
+          to = Shut now;
+          on = record {
+            goes = λ left. (Shut now, opens_to now (Err fault) h left.0, refl);
+            leads = refl;
+            own = (refl, tt);
+            replies_are = ap (λ (x : OpenGameError). unopened stamp datagram x ∷ []) (sym w);
+            makes = (events, [], sym (append-nil events), opens_by_events now events are puts, refl);
+          };
+          at = tt;
+        }
+
+        by_seat : (why : OpenGameError) (events : List Event) → events ≡ looked ++ (taken ++ put) → OpensSeat facts place stamp (setup_of t game.name.items game.start game.delay) (found_draft got) put (Err why) → Next stamp life (unopened stamp datagram why ∷ []) events None
+        by_seat why events are (SeatRefused after fault h nothing told) =
+            refuses (found_keeper got) fault why events (same_why why (unopened_by fault) told) are (opening_refused (setup_of t game.name.items game.start game.delay) got after fault h) (NothingPut refl nothing)
+          where
+            same_why : (a b : OpenGameError) → ◌≡◌ {A = Result (Moment DraftView) OpenGameError} (Err a) (Err b) → a ≡ b
+            same_why a b s = cc
+        by_seat why events are (SeatUnkept after v bytes h to_put keeps told) =
+            refuses (has_failed (found_keeper got) bytes) KeeperFailed why events (let f : ◌≡◌ {A = Result (Moment DraftView) OpenGameError} (Err why) (Err why_not.Keeper) = told in cc) are (opening_unkept (setup_of t game.name.items game.start game.delay) got after v bytes h to_put) (PutFails bytes keeps refl)
+        by_seat why events are (SeatOpened after v h kept told) = absurd (let f : ◌≡◌ {A = Result (Moment DraftView) OpenGameError} (Err why) (Ok (moment v (settled after))) = told in cc)
+
+      by_taking : (game : GameConfig) (looked rest events : List Event) (why : OpenGameError) → opens_game m ≡ true → facts.finds place stamp (Ok game) looked → IsGameOf t.manifest stamp game.name.items game.start game.delay → events ≡ looked ++ rest → TakesAndOpens facts t g stamp game rest (Err why) → Next stamp life (unopened stamp datagram why ∷ []) events None
+      by_taking game looked rest events why opens finds game_is are (TakesNone why' takes told) =
+          let same : why ≡ why' = let f : ◌≡◌ {A = Result (Moment DraftView) OpenGameError} (Err why) (Err why') = told in cc in
+          strange_as why true true events (NotTaken game looked finds g refl why' rest takes are) opens
+          (record { games = g; there = refl; events = rest; takes = subst (λ (w : OpenGameError). facts.takes g stamp (Err w) rest) (sym same) takes }, record { game = game; told = (looked, finds); is = game_is })
+      by_taking game looked rest events why opens finds game_is are (TakesOne taken put got takes seat is_rest) =
+          by_seat game looked finds game_is taken put got takes why events (are ∙ ap (λ (l : List Event). looked ++ l) is_rest) seat
+
+      pub unopened_on : (events : List Event) (why : OpenGameError) → OpensFor facts t g m events (Err why) → Next stamp life (unopened stamp datagram why ∷ []) events None
+      unopened_on events why (OpensNone opens nothing told) = strange_as why false false events (NotLooked nothing) opens ((let f : ◌≡◌ {A = Result (Moment DraftView) OpenGameError} (Err why) (Err why_not.NotOpen) = told in cc), refl)
+      unopened_on events why (NotFound why' opens finds told) =
+          let same : why ≡ why' = let f : ◌≡◌ {A = Result (Moment DraftView) OpenGameError} (Err why) (Err why') = told in cc in
+          strange_as why false true events (Looked (Err why') finds) opens (IsRefused (inl (events, subst (λ (w : OpenGameError). facts.finds place stamp (Err w) events) (sym same) finds)))
+      unopened_on events why (IsOther game opens finds not told) =
+          strange_as why false true events (Looked (Ok game) finds) opens (IsAnother game (events, finds) not (let f : ◌≡◌ {A = Result (Moment DraftView) OpenGameError} (Err why) (Err why_not.OtherGame) = told in cc))
+      unopened_on events why (IsFound game looked rest opens finds game_is takes are) = by_taking game looked rest events why opens finds game_is are takes
+
+    -- ---- the game is open, or is opened
+
+    record Reaches (life : Life) (at : Moment DraftView) (events : List Event) : Type 0 where
+      here : Moment PlaceKeeper
+      acts : Acts
+      on : GoesOn facts place t stamp life acts [] events (Open here)
+      is_at : IsOpenAt at here
+
+    module _ (life : Life) (shut : IsNotOpen life) (at : Moment DraftView) where
+      reached : (game : GameConfig) (looked taken put events : List Event) (got : Option (List ℕ)) → facts.finds place stamp (Ok game) looked → IsGameOf t.manifest stamp game.name.items game.start game.delay → facts.takes g stamp (Ok got) taken → events ≡ looked ++ (taken ++ put) → OpensSeat facts place stamp (setup_of t game.name.items game.start game.delay) (found_draft got) put (Ok at) → Reaches life at events
+      reached game looked taken put events got finds game_is takes are (SeatRefused after fault h nothing told) = absurd (let f : ◌≡◌ {A = Result (Moment DraftView) OpenGameError} (Ok at) (Err (unopened_by fault)) = told in cc)
+      reached game looked taken put events got finds game_is takes are (SeatUnkept after v bytes h to_put keeps told) = absurd (let f : ◌≡◌ {A = Result (Moment DraftView) OpenGameError} (Ok at) (Err why_not.Keeper) = told in cc)
+      reached game looked taken put events got finds game_is takes are (SeatOpened after v h kept told) = by (opened facts place stamp (setup_of t game.name.items game.start game.delay) got after v put h kept)
+        where
+          same : at ≡ moment v (settled after)
+          same = let f : ◌≡◌ {A = Result (Moment DraftView) OpenGameError} (Ok at) (Ok (moment v (settled after))) = told in cc
+
+          by : IsOpened facts place stamp (setup_of t game.name.items game.start game.delay) got after v put → Reaches life at events
+          by x = record {
+            here = moment v x.now;
+            acts = Opens stamp (opening_to life shut game looked finds game_is taken put got takes x.now) v ∷ [];
+            on = record {
+              goes = λ left. (Open (moment v x.now), opens_to life shut game looked finds game_is taken put got takes x.now (Ok v) x.opening left.0, refl);
+              leads = refl;
+              own = (refl, tt);
+              replies_are = refl;
+              makes = (events, [], sym (append-nil events), (opens_by_events life shut game looked finds game_is taken put got takes x.now events are x.puts, x.none), refl);
+            };
+            is_at = record { same = same ∙ ap (λ (d : DraftView). moment v d) x.left; kept = x.none; runs = x.runs };
+          }
+
+      reached_taking : (game : GameConfig) (looked rest events : List Event) → facts.finds place stamp (Ok game) looked → IsGameOf t.manifest stamp game.name.items game.start game.delay → events ≡ looked ++ rest → TakesAndOpens facts t g stamp game rest (Ok at) → Reaches life at events
+      reached_taking game looked rest events finds game_is are (TakesNone why takes told) = absurd (let f : ◌≡◌ {A = Result (Moment DraftView) OpenGameError} (Ok at) (Err why) = told in cc)
+      reached_taking game looked rest events finds game_is are (TakesOne taken put got takes seat is_rest) = reached game looked taken put events got finds game_is takes (are ∙ ap (λ (l : List Event). looked ++ l) is_rest) seat
+
+      reached_for : (events : List Event) → OpensFor facts t g m events (Ok at) → Reaches life at events
+      reached_for events (OpensNone opens nothing told) = absurd (let f : ◌≡◌ {A = Result (Moment DraftView) OpenGameError} (Ok at) (Err why_not.NotOpen) = told in cc)
+      reached_for events (NotFound why opens finds told) = absurd (let f : ◌≡◌ {A = Result (Moment DraftView) OpenGameError} (Ok at) (Err why) = told in cc)
+      reached_for events (IsOther game opens finds not told) = absurd (let f : ◌≡◌ {A = Result (Moment DraftView) OpenGameError} (Ok at) (Err why_not.OtherGame) = told in cc)
+      reached_for events (IsFound game looked rest opens finds game_is takes are) = reached_taking game looked rest events finds game_is are takes
+
+    has_game : (was : Option (Moment DraftView)) (life : Life) (at : Moment DraftView) (events : List Event) → IsAt was life → HasGame facts t g m was events at → Reaches life at events
+    has_game (Some x) Fresh at events a h = absurd a
+    has_game (Some x) (Shut left) at events a h = absurd a
+    has_game (Some x) (Open here) at events a h = record {
+      here = here;
+      acts = [];
+      on = subst (λ (l : List Event). GoesOn facts place t stamp (Open here) [] [] l (Open here)) (sym h.1) (on_nothing facts place t stamp (Open here));
+      is_at = record { same = h.0 ∙ a.same; kept = a.kept; runs = a.runs };
+    }
+    has_game None life at events a h = reached_for life a at events h
+
+    -- ---- by its fate
+
+    abbrev pub fate_reply : Fate → DatagramReply
+    fate_reply fate = reply_with datagram (fate_outputs fate) (fate_line fate)
+
+    same_message : (m' : Message) → heard_in datagram ≡ Ok m' → m' ≡ m
+    same_message m' h = let f : ◌≡◌ {A = Result Message MessageFault} (Ok m') (Ok m) = sym h ∙ is in cc
+
+    -- where a record is kept its game is left where the answer leaves it
+    leaves_kept : (e : Exchange DraftView) (is_kept : Bool) → is_unput e.after.keeper.to_put is_kept e.told ≡ false → fate_leaves (Answered stamp e is_kept) ≡ Some (moment e.after.arbiter (settled e.after.keeper))
+    leaves_kept ex is_kept at = grind arith
+
+    module _ (was now : Option (Moment DraftView)) (life : Life) (events : List Event) (isat : IsAt was life) where
+      answered_fate : (first rest : List Event) (at after : Moment DraftView) (told : Told) (is_kept : Bool) → HasGame facts t g m was first at → AnswersBy facts g stamp at m told after is_kept rest → events ≡ first ++ rest → IsLeftOpen (fate_leaves (Answered stamp (exchange datagram told after) is_kept)) now → (is_unput after.keeper.to_put is_kept told ≡ true → now ≡ None) → Next stamp life (answer_reply after told is_kept ∷ []) events now
+      answered_fate first rest at after told is_kept has answers are own lost = by (has_game was life at first isat has)
+        where
+          by : Reaches life at first → Next stamp life (answer_reply after told is_kept ∷ []) events now
+          by r =
+              let v = r.here.arbiter in
+              let returns : ReturnsAnswer draft_facts (moment v (found_draft r.here.keeper.kept)) (answer_to_any v m) told after = subst (λ (a : Moment DraftView). ReturnsAnswer draft_facts a (answer_to_any a.arbiter m) told after) r.is_at.same answers.answers in
+              let c : Carried facts place stamp v r.here.keeper (answer_at v datagram) told after is_kept rest = carried facts place stamp v r.here.keeper r.is_at.runs (answer_at v datagram) told after is_kept rest (subst (λ (a : Answer). ReturnsAnswer draft_facts (moment v (found_draft r.here.keeper.kept)) a told after) (answer_is v) returns) answers.kept in
+              let n : Next stamp (Open r.here) (answer_reply after told is_kept ∷ []) rest now = answered_on r.here told after is_kept rest c r.is_at.kept now lost (λ b. subst (λ (x : Option (Moment DraftView)). IsLeftOpen x now) (leaves_kept (exchange datagram told after) is_kept b) own) in
+              record {
+                acts = r.acts ++ n.acts;
+                to = n.to;
+                on = subst (λ (l : List Event). GoesOn facts place t stamp life (r.acts ++ n.acts) (answer_reply after told is_kept ∷ []) l n.to) (sym are) (on_join facts place t stamp life (Open r.here) n.to r.acts n.acts [] (answer_reply after told is_kept ∷ []) first rest r.on n.on);
+                at = n.at;
+              }
+
+      pub fated : (fate : Fate) → GoesTo facts t g datagram was events fate → IsLeftOpen (fate_leaves fate) now → (is_lost fate ≡ true → now ≡ None) → Next stamp life (fate_reply fate ∷ []) events now
+      fated fate (IsUnread fault h nothing f) own lost = absurd (let x : ◌≡◌ {A = Result Message MessageFault} (Ok m) (Err fault) = sym is ∙ h in cc)
+      fated fate (IsUnopened m' why h none opens f) own lost =
+          let same : m' ≡ m = same_message m' h in
+          let fate_is : fate ≡ Unopened stamp why = f ∙ ap (λ (x : Message). Unopened (stamp_in x) why) same in
+          let opens_it : OpensFor facts t g m events (Err why) = subst (λ (x : Message). OpensFor facts t g x events (Err why)) same opens in
+          let gone : now ≡ None = either (subst (λ (x : Fate). IsLeftOpen (fate_leaves x) now) fate_is own) in
+          subst (λ (x : Fate). Next stamp life (fate_reply x ∷ []) events now) (sym fate_is)
+          (subst (Next stamp life (unopened stamp datagram why ∷ []) events) (sym gone) (unopened_on life (subst (λ (w : Option (Moment DraftView)). IsAt w life) none isat) events why opens_it))
+        where
+          either : (now ≡ None) ⊎ (now ≡ None) → now ≡ None
+          either (inl x) = x
+          either (inr x) = x
+      fated fate (IsAnswered m' first rest at after told is_kept h has answers are f) own lost =
+          let same : m' ≡ m = same_message m' h in
+          let fate_is : fate ≡ Answered stamp (exchange datagram told after) is_kept = f ∙ ap (λ (x : Message). Answered (stamp_in x) (exchange datagram told after) is_kept) same in
+          subst (λ (x : Fate). Next stamp life (fate_reply x ∷ []) events now) (sym fate_is)
+          (answered_fate first rest at after told is_kept (subst (λ (x : Message). HasGame facts t g x was first at) same has)
+          (subst (λ (x : Message). AnswersBy facts g (stamp_in x) at x told after is_kept rest) same answers) are
+          (subst (λ (x : Fate). IsLeftOpen (fate_leaves x) now) fate_is own) (subst (λ (x : Fate). is_lost x ≡ true → now ≡ None) fate_is lost))

@@ -1,0 +1,4 @@
+pub mod PlaceKeepers
+pub mod ServedGames
+pub mod Lasting
+pub mod Durable

@@ -1,0 +1,70 @@
+-- A game's record as the timeline has it, as a keeper (this project's own).
+use Rattle.std.specs.Prelude.{◌≡◌, ◌⊎◌, ℕ, suc, false, List, Option, Some, None, Ok, Err}
+use Rattle.arbiter_core.specs.Keeping.{KeeperFacts}
+use Rattle.arbiter_core.specs.declared.keeper.Keep.TheVariants.{Good, FailsOld}
+use Rattle.arbiter_server.specs.Folders.{Keepers}
+use Rattle.arbiter_server.specs.declared.fault.OpenGameError.{OpenGameError}
+use Rattle.timeline.specs.Events.{Event}
+use Rattle.game_folder.specs.Holdings.{GamesFacts}
+
+pub record PlaceKeeper : Type 0 where
+  -- what is kept, by what was put, found or noted
+  pub kept : Option (List ℕ)
+  -- the bytes of the last put, if it failed
+  pub unkept : Option (List ℕ)
+  -- how often a put failed
+  pub faults : ℕ
+
+-- a start found this
+abbrev pub found_keeper : Option (List ℕ) → PlaceKeeper
+found_keeper got = record { kept = got; unkept = None; faults = 0 }
+
+-- these bytes were put, or noted
+abbrev pub has_put : PlaceKeeper → List ℕ → PlaceKeeper
+has_put k bytes = record { kept = Some bytes; unkept = None; faults = k.faults }
+
+-- a put of these bytes failed
+abbrev pub has_failed : PlaceKeeper → List ℕ → PlaceKeeper
+has_failed k bytes = record { kept = k.kept; unkept = Some bytes; faults = suc k.faults }
+
+-- a put is good, or it fails and what was kept stays so; a get neither fails nor changes anything
+abbrev pub place_facts : KeeperFacts PlaceKeeper
+place_facts = record {
+  kept = λ k. k.kept;
+  faults = λ k. k.faults;
+  may_be = λ k keep. (keep ≡ Good) ⊎ (keep ≡ FailsOld);
+  get_may_fail = λ k. ⊥;
+  leaves = λ k bytes n. (n ≡ has_put k bytes) ⊎ (n ≡ has_failed k bytes);
+  reads = λ k fault n. n ≡ k;
+}
+
+-- the next opening finds what was left; or, where the last put failed, its bytes
+abbrev pub Follows : PlaceKeeper → PlaceKeeper → Type 0
+Follows left next = (next.kept ≡ left.kept) ⊎ ((bytes : List ℕ) × (left.unkept ≡ Some bytes) × (next.kept ≡ Some bytes))
+
+module _ {G : Type 0} (facts : GamesFacts G) (place : facts.Place) where
+  -- for this reason the record of the game with this stamp can't be had there
+  pub record Withholds (stamp : List ℕ) (why : OpenGameError) : Type 0 where
+    pub games : G
+    pub there : facts.place games ≡ place
+    pub events : List Event
+    pub takes : facts.takes games stamp (Err why) events
+
+  -- what was noted there couldn't be committed
+  pub record FailsToCommit : Type 0 where
+    pub games : G
+    pub there : facts.place games ≡ place
+    pub events : List Event
+    pub fails : facts.commits games false events
+
+  -- what is known of games at a place
+  abbrev pub place_keepers : Keepers PlaceKeeper
+  place_keepers = record {
+    facts = place_facts;
+    tells = λ stamp game. (events : List Event) × facts.finds place stamp (Ok game) events;
+    refuses = λ stamp why. ((events : List Event) × facts.finds place stamp (Err why) events) ⊎ Withholds stamp why;
+    withholds = Withholds;
+    is_of = λ stamp k. k.unkept ≡ None;
+    follows = Follows;
+    may_fail = FailsToCommit;
+  }
