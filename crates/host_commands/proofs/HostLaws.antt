@@ -1,21 +1,28 @@
 -- Arbiters of the games of a folder, one step after another.
-use Rattle.std.proofs.Common.{◌≡◌, ◌++◌, ◌∷◌, ◌∙◌, [], ℕ, true, List, Option, append_assoc, ap, refl, subst}
+use Rattle.std.proofs.Common.{◌≡◌, ◌++◌, ◌∷◌, [], ℕ, true, List, Option, ap, length, refl, subst}
 use Rattle.std.specs.Prelude.{Result, Ok, Err}
 use Rattle.answer_parts.proofs.PrintLaws.{does_so, then_does}
 use Rattle.answer_parts.specs.Printing.{Performs, Prints}
+use Rattle.arbiter_server.specs.Games.{CommonView}
 use Rattle.arbiter_server.specs.declared.line_log.LogForm.TheVariants.{Nothing}
 use Rattle.command_line.specs.declared.commands.host.HostGames.{HostGames}
 use Rattle.game_folder.specs.Holdings.{GamesFacts}
 use Rattle.game_server.specs.Printing.{OfGames}
 use Rattle.game_server.specs.declared.server.Server.{Server}
+use Rattle.judge_core.specs.Tables.{Holding}
 use Rattle.system_io.specs.declared.output.WriteFault.{WriteFault}
 use Rattle.system_io.specs.declared.recipient.Recipient.{Recipient}
+use Rattle.task_files.specs.Given.{Given}
 use Rattle.timeline.specs.Events.{Event, Noted}
 use Rattle.timeline.specs.Outsides.{Adds, AddsSome, Outside}
-use Rattle.host_commands.specs.Hosts.{AnswersLogged, GamesServed, Logged, NotesAndRuns, RunsGames, Unlogged, log_lost, tables_line}
+use Rattle.host_commands.proofs.StepLaws.{goes_on, goes_on_so, is_refused, is_refused_so}
+use Rattle.host_commands.specs.Hosts.{AnswersLogged, GamesServed, HostsBy, LocksAndRuns, Logged, NotesAndRuns, RunsGames, Unlogged, common_for, log_lost, tables_line}
 use Rattle.host_commands.specs.Inside.HostParts.{GoesOnUnlogged}
+use Rattle.host_commands.specs.Listings.{ListsGames}
 use Rattle.host_commands.specs.Notes.{MayNote}
 use Rattle.host_commands.specs.ServerRuns.{AnswersAll, LosesLine}
+use Rattle.host_commands.specs.Steps.{Doing, ThenOrRefused}
+use Rattle.host_commands.specs.Tables.{GathersTables, MakesManifest}
 
 module _ {T P F K S L G : Type 0} (o : Outside T P F K S L) (facts : GamesFacts G) where
   -- the loss is noted, and it goes on
@@ -41,3 +48,31 @@ module _ {T P F K S L G : Type 0} (o : Outside T P F K S L) (facts : GamesFacts 
       → AddsSome o a c (Performs (NotesAndRuns o facts h read s port) r)
   noted_so h read s port a b c r p q =
       then_does o a b c p.0 (RunsGames o facts h s port) (NotesAndRuns o facts h read s port) r (λ events status is. record { noting = p.0; rest = events; notes = p.2; runs = is; all = refl }) p.1 q
+
+module _ {T P F K S L : Type 0} (o : Outside T P F K S L) (h : HostGames) (given : Given) where
+  -- by a manifest, after the folder was listed
+  abbrev Manifested : Holding → Doing
+  Manifested set = ThenOrRefused (MakesManifest given) (λ manifest. LocksAndRuns o h (common_for h set manifest) (length given.files))
+
+  abbrev Gathered : Holding → Doing
+  Gathered set = ThenOrRefused (ListsGames o.disk h.games.now h.store) (λ listed. Manifested set)
+
+  pub no_tables : (a b : T) (words : List ℕ) (r : Result ℕ WriteFault) → GathersTables given h.cache (Err words) [] → AddsSome o a b (Performs (Prints (words ∷ []) 1) r) → AddsSome o a b (Performs (HostsBy o h given) r)
+  no_tables a b words r tables p = is_refused_so o a b (GathersTables given h.cache) Gathered words r tables p
+
+  pub no_folder : (a b c : T) (set : Holding) (words : List ℕ) (r : Result ℕ WriteFault) → GathersTables given h.cache (Ok set) [] → AddsSome o a b (ListsGames o.disk h.games.now h.store (Err words)) → AddsSome o b c (Performs (Prints (words ∷ []) 1) r)
+      → AddsSome o a c (Performs (HostsBy o h given) r)
+  no_folder a b c set words r tables p q = goes_on_so o a c (GathersTables given h.cache) Gathered set r tables (is_refused o a b c (ListsGames o.disk h.games.now h.store) (λ listed. Manifested set) words r p q)
+
+  pub no_manifest : (a b c : T) (set : Holding) (words : List ℕ) (r : Result ℕ WriteFault) → GathersTables given h.cache (Ok set) [] → AddsSome o a b (ListsGames o.disk h.games.now h.store (Ok tt)) → MakesManifest given (Err words) []
+      → AddsSome o b c (Performs (Prints (words ∷ []) 1) r) → AddsSome o a c (Performs (HostsBy o h given) r)
+  no_manifest a b c set words r tables p made q =
+      goes_on_so o a c (GathersTables given h.cache) Gathered set r tables (goes_on o a b c (ListsGames o.disk h.games.now h.store) (λ listed. Manifested set) tt r p (is_refused_so o b c (MakesManifest given) _ words r made q))
+
+  pub hosted_by : (a b c : T) (set : Holding) (manifest : List ℕ) (common : CommonView) (read : ℕ) (r : Result ℕ WriteFault) → GathersTables given h.cache (Ok set) [] → AddsSome o a b (ListsGames o.disk h.games.now h.store (Ok tt)) → MakesManifest given (Ok manifest) []
+      → common ≡ common_for h set manifest → read ≡ length given.files → AddsSome o b c (Performs (LocksAndRuns o h common read) r) → AddsSome o a c (Performs (HostsBy o h given) r)
+  hosted_by a b c set manifest common read r tables p made is count q =
+      let one : AddsSome o b c (Performs (LocksAndRuns o h (common_for h set manifest) (length given.files)) r) =
+          subst (λ (n : ℕ). AddsSome o b c (Performs (LocksAndRuns o h (common_for h set manifest) n) r)) count (subst (λ (x : CommonView). AddsSome o b c (Performs (LocksAndRuns o h x read) r)) is q) in
+      goes_on_so o a c (GathersTables given h.cache) Gathered set r tables (goes_on o a b c (ListsGames o.disk h.games.now h.store) (λ listed. Manifested set) tt r p
+      (goes_on_so o b c (MakesManifest given) (λ m. LocksAndRuns o h (common_for h set m) (length given.files)) manifest r made one))

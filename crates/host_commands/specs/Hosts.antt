@@ -10,7 +10,8 @@ use Rattle.command_line.specs.declared.commands.host.HostGames.{HostGames}
 use Rattle.command_line.specs.declared.words.numbers.StoreForm.{StoreForm}
 use Rattle.command_line.specs.declared.words.numbers.StoreForm.TheVariants as form
 use Rattle.game_folder.specs.Holdings.{GamesFacts}
-use Rattle.game_folder.specs.StoredGames.{StoredGames, stored_games}
+use Rattle.game_folder.specs.FolderGames.{folder_games_facts}
+use Rattle.game_folder.specs.StoreGames.{StoredGames, store_games_facts}
 use Rattle.game_folder.specs.declared.folder_games.FolderGames.{FolderGames}
 use Rattle.game_server.specs.Printing.{OfGames}
 use Rattle.game_server.specs.declared.server.Server.{Server}
@@ -77,6 +78,10 @@ module _ {T P F K S L G : Type 0} (o : Outside T P F K S L) (facts : GamesFacts 
 
 -- ---- how records are kept
 
+-- the games of a folder with this store, of which some are left: no record of theirs is given; nothing is noted yet
+abbrev pub stored_games : {S : Type 0} → List ℕ → S → List (List ℕ) → StoredGames S
+stored_games folder store left = record { folder = folder; store = store; noted = []; left = left; loss = None }
+
 -- The records of files go over into a store that hasn't them, and it is noted which files hold none; what games keep is put there from now
 -- on. Or why they don't go over.
 pub data KeepsInStore {T P F K S L : Type 0} (o : Outside T P F K S L) (folder : List ℕ) (store : S) (result : Result (StoredGames S) (List ℕ)) (events : List Event) : Type 0 where
@@ -88,21 +93,16 @@ pub data OpensGames {T P F K S L : Type 0} (o : Outside T P F K S L) (folder : L
   NoStore : (words : List ℕ) → OpensStore o folder (Err words) events → result ≡ Err words → OpensGames o folder result events
   OverStore : (store : S) (opening rest : List Event) → OpensStore o folder (Ok store) opening → KeepsInStore o folder store result rest → events ≡ opening ++ rest → OpensGames o folder result events
 
--- what is known of games whose records are in files, and of those whose records are in a store
-pub record EitherGames (S : Type 0) : Type 1 where
-  pub files : GamesFacts FolderGames
-  pub store : GamesFacts (StoredGames S)
-
-module _ {T P F K S L : Type 0} (o : Outside T P F K S L) (facts : EitherGames S) (h : HostGames) where
+module _ {T P F K S L : Type 0} (o : Outside T P F K S L) (h : HostGames) where
   -- the games of the folder, with a file for each record
   pub record RunsFiles (common : CommonView) (read : ℕ) (events : List Event) (status : Option ℕ) : Type 0 where
     pub games : FolderGames
     pub folder : games.folder.now ≡ h.games.now
-    pub runs : BindsAndRuns o facts.files h read (record { common = common; games = games }) events status
+    pub runs : BindsAndRuns o folder_games_facts h read (record { common = common; games = games }) events status
 
   -- or with a store
   abbrev pub RunsStore : CommonView → ℕ → Doing
-  RunsStore common read = ThenOrRefused (OpensGames o h.games.now) (λ games. BindsAndRuns o facts.store h read (record { common = common; games = games }))
+  RunsStore common read = ThenOrRefused (OpensGames o h.games.now) (λ games. BindsAndRuns o (store_games_facts o) h read (record { common = common; games = games }))
 
   -- as the words say
   abbrev pub RunsKept : StoreForm → CommonView → ℕ → Doing

@@ -1,6 +1,7 @@
 -- `listen`: an arbiter of one game, at a port (this project's own).
 use Rattle.std.specs.Prelude.{◌≡◌, ◌++◌, ℕ, Bool, true, false, List, [], ◌∷◌, Option, Some, None, Result, Ok, Err}
 use Rattle.answer_parts.specs.Lines.{refused_fen}
+use Rattle.arbiter_server.specs.GameFiles.{game_as_told}
 use Rattle.arbiter_server.specs.Games.{CommonView}
 use Rattle.arbiter_server.specs.ServedLines.{refused_keeper}
 use Rattle.arbiter_server.specs.declared.fault.OpenGameError.{OpenGameError}
@@ -13,10 +14,10 @@ use Rattle.fen_text.specs.Fen.{IsFirstFenFault, SpellsPosition}
 use Rattle.fen_text.specs.Written.{fen_of}
 use Rattle.fen_text.specs.declared.fault.FenFault.{FenFault}
 use Rattle.game_folder.specs.Holdings.{GamesFacts}
-use Rattle.game_folder.specs.declared.one_game.OneGame.{OneGame}
+use Rattle.game_folder.specs.OneGame.{OneGameView, one_game_facts}
 use Rattle.game_server.specs.Printing.{OfOne}
-use Rattle.game_server.specs.Sending.{Address, address_of}
-use Rattle.game_server.specs.Starts.{OpensAlone, asked}
+use Rattle.game_server.specs.Sending.{Address, IsRequestSpelled, address_of, request_sent}
+use Rattle.game_server.specs.Starting.{OpensUnasked, request_at}
 use Rattle.game_server.specs.declared.server.Server.{Server}
 use Rattle.judge_core.specs.Tables.{Holding}
 use Rattle.line_teller.specs.ToldLines.{refused_memory}
@@ -44,18 +45,12 @@ abbrev pub common_for : Listen → Holding → List ℕ → CommonView
 common_for l set manifest = record { manifest = manifest; number = who_number l.me; set = set; at_once = 1; together = 1 }
 
 -- the game that the words tell, whose record is in the file that they name
-pub record IsGameOf (l : Listen) (start : Parts) (manifest : List ℕ) (game : OneGame) : Type 0 where
-  pub stamp : game.stamp ≡ stamp_of l.name (fen_of start) manifest l.delay
-  pub name : game.name.items ≡ l.name
-  pub start_is : game.start ≡ start
-  pub delay : game.delay ≡ l.delay
-  pub path : game.path.now ≡ l.kept.now
+abbrev pub game_of : Listen → Parts → List ℕ → OneGameView
+game_of l start manifest = record { at = record { stamp = stamp_of l.name (fen_of start) manifest l.delay; game = game_as_told l.name start l.delay; path = l.kept.now }; is_lost = false }
 
 -- it is what is served, under its stamp by the manifest of its tables
-pub record IsOneServed (l : Listen) (start : Parts) (set : Holding) (manifest : List ℕ) (s : OneServed OneGame) : Type 0 where
-  pub common : s.common ≡ common_for l set manifest
-  pub game : IsGameOf l start manifest s.games
-  pub stamp : s.stamp ≡ stamp_of l.name (fen_of start) manifest l.delay
+abbrev pub served_of : Listen → Parts → Holding → List ℕ → OneServed OneGameView
+served_of l start set manifest = record { common = common_for l set manifest; games = game_of l start manifest; stamp = stamp_of l.name (fen_of start) manifest l.delay }
 
 -- the words of the start spell this position; or why they spell none; nothing happens for this
 pub data IsStart (text : List ℕ) (result : Result Parts (List ℕ)) (events : List Event) : Type 0 where
@@ -76,14 +71,14 @@ unopened_refusal unopened.OutOfMemory = refused_memory
 -- the request for moves of a game goes out, where that is wanted and it has one
 abbrev pub AsksIf : {G F : Type 0} → Bool → Address → Server G F → List ℕ → List Event → Type 0
 AsksIf false to server stamp events = events ≡ []
-AsksIf true to server stamp events = events ≡ asked to server stamp
+AsksIf true to server stamp events = IsRequestSpelled (request_at server stamp) × (events ≡ request_sent to (request_at server stamp))
 
 -- of a game with this stamp, where so many datagrams are answered together at most
 module _ {T P F K S L G : Type 0} (o : Outside T P F K S L) (facts : GamesFacts G) (l : Listen) (most : ℕ) (stamp : List ℕ) where
   -- it is opened over its record by these events, and no other one is; or it isn't
   pub data OpensGame (server : Server G F) (result : Result (Server G F) (List ℕ)) (events : List Event) : Type 0 where
-    GameIsOpen : (opened : Server G F) → OpensAlone o facts server opened stamp (Ok tt) events → result ≡ Ok opened → OpensGame server result events
-    GameIsNotOpen : (why : OpenGameError) (left : Server G F) → OpensAlone o facts server left stamp (Err why) events → result ≡ Err (unopened_refusal why) → OpensGame server result events
+    GameIsOpen : (opened : Server G F) → OpensUnasked o facts server opened stamp (Ok tt) events → result ≡ Ok opened → OpensGame server result events
+    GameIsNotOpen : (why : OpenGameError) (left : Server G F) → OpensUnasked o facts server left stamp (Err why) events → result ≡ Err (unopened_refusal why) → OpensGame server result events
 
   -- its request for moves goes out, where that is wanted, and then datagrams are answered
   pub record AsksAndAnswers (port : P) (server : Server G F) (events : List Event) (status : Option ℕ) : Type 0 where
@@ -119,12 +114,10 @@ module _ {T P F K S L G : Type 0} (o : Outside T P F K S L) (facts : GamesFacts 
 abbrev pub usual_cache : ℕ
 usual_cache = 64
 
-module _ {T P F K S L : Type 0} (o : Outside T P F K S L) (facts : GamesFacts OneGame) (l : Listen) where
+module _ {T P F K S L : Type 0} (o : Outside T P F K S L) (l : Listen) where
   -- the arbiter of the game that the words tell, by these tables
-  pub record RunsGame (start : Parts) (set : Holding) (manifest : List ℕ) (events : List Event) (status : Option ℕ) : Type 0 where
-    pub served : OneServed OneGame
-    pub is : IsOneServed l start set manifest served
-    pub runs : BindsAndRuns o facts l served events status
+  abbrev pub RunsGame : Parts → Holding → List ℕ → Doing
+  RunsGame start set manifest = BindsAndRuns o one_game_facts l (served_of l start set manifest)
 
   -- by what was read: the text of the start is refused first, and then the tables
   abbrev pub ListensBy : Given → Doing

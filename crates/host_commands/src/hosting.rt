@@ -9,7 +9,7 @@ ghost use Rattle.command_line.specs.Commands.Host.{named};
 ghost use Rattle.game_server.specs.Printing.{KnowsLines, OfGames, form_in};
 ghost use Rattle.game_server.specs.Seats.{AreSeats};
 ghost use Rattle.host_commands.specs.Hosts.{AnswersLogged, BindsAndRuns, Hosts, common_for, HostsBy, LocksAndRuns, NotesAndRuns, RunsGames, RunsKept, RunsStore, tables_line, together_of};
-ghost use Rattle.host_commands.specs.Inside.HostParts.{GoesOnUnlogged, HostsByTables, HostsListed, TellsAndRuns, either_games, games_served};
+ghost use Rattle.host_commands.specs.Inside.HostParts.{GoesOnUnlogged, TellsAndRuns, games_served};
 ghost use Rattle.host_commands.specs.Notes.{MayNote};
 ghost use Rattle.judge_core.specs.Tables.{Holding};
 ghost use Rattle.task_files.specs.Sources.{named_by};
@@ -26,7 +26,7 @@ use crate::tables::{make_manifest, tables_of};
 use answer_parts::{Refusal, print_refusal, print_unread};
 use arbiter_server::{LineLog, ServerConfig};
 use command_line::{HostGames, StoreForm};
-use game_folder::{FolderGames, Games, StoreGames};
+use game_folder::{FolderGames, Games};
 use game_server::{Lines, PortServer, serve};
 use judge_core::Set;
 use std::alloc::{AllocError, Global};
@@ -71,8 +71,8 @@ fn go_on_unlogged<'a, S: System, G: Games<S> + Drop>(
     system: &S,
     timeline: &mut S::Timeline,
 ) -> Result<u8, WriteFault>
-    requires seats { AreSeats (S.outside system.now) G.facts at.old.server }
-    ensures made { AddsSome (S.outside system.now) timeline.old timeline.new (Performs (GoesOnUnlogged (S.outside system.now) G.facts at.old.replies.most n ((S.outside system.now).port port.old).to at.old.server) result) }
+    requires seats { AreSeats (S.outside system.now) (G.facts system.now) at.old.server }
+    ensures made { AddsSome (S.outside system.now) timeline.old timeline.new (Performs (GoesOnUnlogged (S.outside system.now) (G.facts system.now) at.old.replies.most n ((S.outside system.now).port port.old).to at.old.server) result) }
     ensures cause { OnErr result (OutputFails (S.outside system.now)) }
 {
     system.note(timeline, LOG_LOST);
@@ -88,10 +88,10 @@ fn serve_logged<'a, S: System, G: Games<S> + Drop>(
     system: &S,
     timeline: &mut S::Timeline,
 ) -> Result<u8, WriteFault>
-    requires seats { AreSeats (S.outside system.now) G.facts at.old.server }
+    requires seats { AreSeats (S.outside system.now) (G.facts system.now) at.old.server }
     requires lines { form_in at.old.lines ≡ OfGames task.now.log }
     requires none { KnowsLines at.old.lines [] }
-    ensures made { AddsSome (S.outside system.now) timeline.old timeline.new (Performs (AnswersLogged (S.outside system.now) G.facts task.now at.old.replies.most ((S.outside system.now).port port.old).to at.old.server) result) }
+    ensures made { AddsSome (S.outside system.now) timeline.old timeline.new (Performs (AnswersLogged (S.outside system.now) (G.facts system.now) task.now at.old.replies.most ((S.outside system.now).port port.old).to at.old.server) result) }
     ensures cause { OnErr result (OutputFails (S.outside system.now)) }
 {
     match serve(at, system, timeline, port, task.datagrams) {
@@ -114,7 +114,7 @@ fn serve_games<'a, S: System, G: Games<S> + Drop>(
     system: &S,
     timeline: &mut S::Timeline,
 ) -> Result<u8, WriteFault>
-    ensures made { AddsSome (S.outside system.now) timeline.old timeline.new (Performs (RunsGames (S.outside system.now) G.facts task.now (games_served served.entry) port.old) result) }
+    ensures made { AddsSome (S.outside system.now) timeline.old timeline.new (Performs (RunsGames (S.outside system.now) (G.facts system.now) task.now (games_served served.entry) port.old) result) }
     ensures cause { OnErr result (OutputFails (S.outside system.now)) }
 {
     let GamesServed {
@@ -154,7 +154,7 @@ fn note_and_serve<'a, S: System, G: Games<S> + Drop>(
     system: &S,
     timeline: &mut S::Timeline,
 ) -> Result<u8, WriteFault>
-    ensures made { AddsSome (S.outside system.now) timeline.old timeline.new (Performs (NotesAndRuns (S.outside system.now) G.facts plan.now.task.now plan.now.read (games_served served.entry) port.old) result) }
+    ensures made { AddsSome (S.outside system.now) timeline.old timeline.new (Performs (NotesAndRuns (S.outside system.now) (G.facts system.now) plan.now.task.now plan.now.read (games_served served.entry) port.old) result) }
     ensures cause { OnErr result (OutputFails (S.outside system.now)) }
 {
     note_tables(alloc, system, timeline, plan.read);
@@ -170,7 +170,7 @@ fn tell_and_serve<'a, S: System, G: Games<S> + Drop>(
     system: &S,
     timeline: &mut S::Timeline,
 ) -> Result<u8, WriteFault>
-    ensures made { AddsSome (S.outside system.now) timeline.old timeline.new (Performs (TellsAndRuns (S.outside system.now) G.facts plan.now.task.now plan.now.read (games_served served.entry) port.old) result) }
+    ensures made { AddsSome (S.outside system.now) timeline.old timeline.new (Performs (TellsAndRuns (S.outside system.now) (G.facts system.now) plan.now.task.now plan.now.read (games_served served.entry) port.old) result) }
     ensures cause { OnErr result (OutputFails (S.outside system.now)) }
 {
     let line = match ready_line(alloc, system, port) {
@@ -191,7 +191,7 @@ fn bind_and_serve<'a, S: System, G: Games<S> + Drop>(
     system: &S,
     timeline: &mut S::Timeline,
 ) -> Result<u8, WriteFault>
-    ensures made { AddsSome (S.outside system.now) timeline.old timeline.new (Performs (BindsAndRuns (S.outside system.now) G.facts plan.now.task.now plan.now.read (games_served served.entry)) result) }
+    ensures made { AddsSome (S.outside system.now) timeline.old timeline.new (Performs (BindsAndRuns (S.outside system.now) (G.facts system.now) plan.now.task.now plan.now.read (games_served served.entry)) result) }
     ensures cause { OnErr result (OutputFails (S.outside system.now)) }
 {
     match bind(alloc, system, timeline, plan.task.bind, plan.task.to) {
@@ -208,14 +208,14 @@ struct Common<'a> {
 }
 
 /// Opens the store of the folder, and serves the games, whose records are kept there.
-fn store_and_serve<'a, 'w, S: System>(
+fn store_and_serve<'a, S: System>(
     alloc: Global,
-    plan: &HostPlan<'_, 'w>,
+    plan: &HostPlan<'_, '_>,
     common: Common<'a>,
     system: &S,
     timeline: &mut S::Timeline,
 ) -> Result<u8, WriteFault>
-    ensures made { AddsSome (S.outside system.now) timeline.old timeline.new (Performs (RunsStore (S.outside system.now) (either_games ⟦<FolderGames<'w> as Games<S>>⟧.facts ⟦<StoreGames<'w, S> as Games<S>>⟧.facts) plan.now.task.now (common_with common.entry.config common.entry.tables) plan.now.read) result) }
+    ensures made { AddsSome (S.outside system.now) timeline.old timeline.new (Performs (RunsStore (S.outside system.now) plan.now.task.now (common_with common.entry.config common.entry.tables) plan.now.read) result) }
     ensures cause { OnErr result (OutputFails (S.outside system.now)) }
 {
     match open_games(alloc, system, timeline, plan.task.games) {
@@ -233,14 +233,14 @@ fn store_and_serve<'a, 'w, S: System>(
 }
 
 /// Serves the games of the folder, whose records are kept as the words say.
-fn keep_and_serve<'a, 'w, S: System>(
+fn keep_and_serve<'a, S: System>(
     alloc: Global,
-    plan: &HostPlan<'_, 'w>,
+    plan: &HostPlan<'_, '_>,
     common: Common<'a>,
     system: &S,
     timeline: &mut S::Timeline,
 ) -> Result<u8, WriteFault>
-    ensures made { AddsSome (S.outside system.now) timeline.old timeline.new (Performs (RunsKept (S.outside system.now) (either_games ⟦<FolderGames<'w> as Games<S>>⟧.facts ⟦<StoreGames<'w, S> as Games<S>>⟧.facts) plan.now.task.now plan.now.task.now.store (common_with common.entry.config common.entry.tables) plan.now.read) result) }
+    ensures made { AddsSome (S.outside system.now) timeline.old timeline.new (Performs (RunsKept (S.outside system.now) plan.now.task.now plan.now.task.now.store (common_with common.entry.config common.entry.tables) plan.now.read) result) }
     ensures cause { OnErr result (OutputFails (S.outside system.now)) }
 {
     match plan.task.store {
@@ -260,14 +260,14 @@ fn keep_and_serve<'a, 'w, S: System>(
 }
 
 /// Locks the folder of games, and serves them as long as it is locked.
-fn lock_and_serve<'a, 'w, S: System>(
+fn lock_and_serve<'a, S: System>(
     alloc: Global,
-    plan: &HostPlan<'_, 'w>,
+    plan: &HostPlan<'_, '_>,
     common: Common<'a>,
     system: &S,
     timeline: &mut S::Timeline,
 ) -> Result<u8, WriteFault>
-    ensures made { AddsSome (S.outside system.now) timeline.old timeline.new (Performs (LocksAndRuns (S.outside system.now) (either_games ⟦<FolderGames<'w> as Games<S>>⟧.facts ⟦<StoreGames<'w, S> as Games<S>>⟧.facts) plan.now.task.now (common_with common.entry.config common.entry.tables) plan.now.read) result) }
+    ensures made { AddsSome (S.outside system.now) timeline.old timeline.new (Performs (LocksAndRuns (S.outside system.now) plan.now.task.now (common_with common.entry.config common.entry.tables) plan.now.read) result) }
     ensures cause { OnErr result (OutputFails (S.outside system.now)) }
 {
     match lock(alloc, system, timeline, plan.task.games, IN_GAMES) {
@@ -288,18 +288,25 @@ fn config_for<'a>(task: &HostGames<'_>, manifest: &'a [u8]) -> ServerConfig<'a>
     }
 }
 
-/// Serves the games of the folder, which was listed, by these tables.
-fn host_listed<'a, S: System>(
+/// Serves the games of the folder by what was read: the tables are refused first, and then the folder.
+fn host_by<S: System>(
     alloc: Global,
-    task: &HostGames<'a>,
+    task: &HostGames<'_>,
     sources: &Inputs,
-    tables: Set<'_>,
     system: &S,
     timeline: &mut S::Timeline,
 ) -> Result<u8, WriteFault>
-    ensures made { AddsSome (S.outside system.now) timeline.old timeline.new (Performs (HostsListed (S.outside system.now) (either_games ⟦<FolderGames<'a> as Games<S>>⟧.facts ⟦<StoreGames<'a, S> as Games<S>>⟧.facts) task.now sources.now tables.entry) result) }
+    ensures made { AddsSome (S.outside system.now) timeline.old timeline.new (Performs (HostsBy (S.outside system.now) task.now sources.now) result) }
     ensures cause { OnErr result (OutputFails (S.outside system.now)) }
 {
+    let tables = match tables_of(alloc, sources, task.cache) {
+        Ok(tables) => tables,
+        Err(refusal) => return print_refusal(system, timeline, refusal),
+    };
+    match list_games(alloc, system, timeline, task.games, task.store) {
+        Ok(()) => {}
+        Err(refusal) => return print_refusal(system, timeline, refusal),
+    }
     let manifest = match make_manifest(alloc, sources) {
         Ok(manifest) => manifest,
         Err(refusal) => return print_refusal(system, timeline, refusal),
@@ -313,41 +320,6 @@ fn host_listed<'a, S: System>(
         tables,
     };
     lock_and_serve(alloc, &plan, common, system, timeline)
-}
-
-/// Lists the folder of the games, and serves them by these tables.
-fn host_with<'a, S: System>(
-    alloc: Global,
-    task: &HostGames<'a>,
-    sources: &Inputs,
-    tables: Set<'_>,
-    system: &S,
-    timeline: &mut S::Timeline,
-) -> Result<u8, WriteFault>
-    ensures made { AddsSome (S.outside system.now) timeline.old timeline.new (Performs (HostsByTables (S.outside system.now) (either_games ⟦<FolderGames<'a> as Games<S>>⟧.facts ⟦<StoreGames<'a, S> as Games<S>>⟧.facts) task.now sources.now tables.entry) result) }
-    ensures cause { OnErr result (OutputFails (S.outside system.now)) }
-{
-    match list_games(alloc, system, timeline, task.games, task.store) {
-        Ok(()) => host_listed(alloc, task, sources, tables, system, timeline),
-        Err(refusal) => print_refusal(system, timeline, refusal),
-    }
-}
-
-/// Serves the games of the folder by what was read.
-fn host_by<'a, S: System>(
-    alloc: Global,
-    task: &HostGames<'a>,
-    sources: &Inputs,
-    system: &S,
-    timeline: &mut S::Timeline,
-) -> Result<u8, WriteFault>
-    ensures made { AddsSome (S.outside system.now) timeline.old timeline.new (Performs (HostsBy (S.outside system.now) (either_games ⟦<FolderGames<'a> as Games<S>>⟧.facts ⟦<StoreGames<'a, S> as Games<S>>⟧.facts) task.now sources.now) result) }
-    ensures cause { OnErr result (OutputFails (S.outside system.now)) }
-{
-    match tables_of(alloc, sources, task.cache) {
-        Ok(tables) => host_with(alloc, task, sources, tables, system, timeline),
-        Err(refusal) => print_refusal(system, timeline, refusal),
-    }
 }
 
 /// What is read for it.
@@ -370,13 +342,13 @@ fn places_of<'t>(task: &HostGames<'t>) -> InputPaths<'t>
 /// memory is refused the line is `refused memory`. Then the line `ready` with the address at which datagrams come goes out, and then a line
 /// for each datagram, as `game_server::serve` has it. It is noted of how many files tables were read, why a store isn't opened, which files
 /// hold no record of their games, and where a log is lost that the games outlive. The error comes only where the output may fail.
-pub fn host_games<'a, S: System>(
+pub fn host_games<S: System>(
     alloc: Global,
-    task: &HostGames<'a>,
+    task: &HostGames<'_>,
     system: &S,
     timeline: &mut S::Timeline,
 ) -> Result<u8, WriteFault>
-    ensures made { AddsSome (S.outside system.now) timeline.old timeline.new (Performs (Hosts (S.outside system.now) (either_games ⟦<FolderGames<'a> as Games<S>>⟧.facts ⟦<StoreGames<'a, S> as Games<S>>⟧.facts) task.now) result) }
+    ensures made { AddsSome (S.outside system.now) timeline.old timeline.new (Performs (Hosts (S.outside system.now) task.now) result) }
     ensures cause { OnErr result (OutputFails (S.outside system.now)) }
 {
     let places = places_of(task);

@@ -7,7 +7,7 @@ ghost use Rattle.command_line.specs.Commands.Listen.{named};
 ghost use Rattle.game_server.specs.Seats.{AreSeats};
 ghost use Rattle.game_server.specs.Sending.{address_of};
 ghost use Rattle.host_commands.specs.Inside.Parts.{ListensFrom, TellsAndRuns, served_one};
-ghost use Rattle.host_commands.specs.Listens.{AsksIf, BindsAndRuns, IsGameOf, IsOneServed, Listens, ListensBy, LocksAndRuns, OpensAndAnswers, ReadyIf, RunsOne, unopened_refusal};
+ghost use Rattle.host_commands.specs.Listens.{AsksIf, BindsAndRuns, Listens, ListensBy, LocksAndRuns, OpensAndAnswers, ReadyIf, RunsOne, game_of, served_of, unopened_refusal};
 ghost use Rattle.task_files.specs.Sources.{named_by};
 ghost use Rattle.timeline.specs.Outsides.{AddsSome, HeardNothing};
 
@@ -82,9 +82,9 @@ fn open_and_serve<'a, S: System, G: Games<S> + Drop>(
     system: &S,
     timeline: &mut S::Timeline,
 ) -> Result<u8, WriteFault>
-    requires seats { AreSeats (S.outside system.now) G.facts at.old.server }
+    requires seats { AreSeats (S.outside system.now) (G.facts system.now) at.old.server }
     requires lines { at.old.lines ≡ Lines.OfOne stamp }
-    ensures made { AddsSome (S.outside system.now) timeline.old timeline.new (Performs (OpensAndAnswers (S.outside system.now) G.facts task.now at.old.replies.most stamp port.old at.old.server) result) }
+    ensures made { AddsSome (S.outside system.now) timeline.old timeline.new (Performs (OpensAndAnswers (S.outside system.now) (G.facts system.now) task.now at.old.replies.most stamp port.old at.old.server) result) }
     ensures cause { OnErr result (OutputFails (S.outside system.now)) }
 {
     match open_game(at, system, timeline, stamp) {
@@ -105,7 +105,7 @@ fn serve_one<'a, S: System, G: Games<S> + Drop>(
     system: &S,
     timeline: &mut S::Timeline,
 ) -> Result<u8, WriteFault>
-    ensures made { AddsSome (S.outside system.now) timeline.old timeline.new (Performs (RunsOne (S.outside system.now) G.facts task.now (served_one served.entry) port.old) result) }
+    ensures made { AddsSome (S.outside system.now) timeline.old timeline.new (Performs (RunsOne (S.outside system.now) (G.facts system.now) task.now (served_one served.entry) port.old) result) }
     ensures cause { OnErr result (OutputFails (S.outside system.now)) }
 {
     let OneServed {
@@ -129,7 +129,7 @@ fn lock_and_serve<'a, S: System, G: Games<S> + Drop>(
     system: &S,
     timeline: &mut S::Timeline,
 ) -> Result<u8, WriteFault>
-    ensures made { AddsSome (S.outside system.now) timeline.old timeline.new (Performs (LocksAndRuns (S.outside system.now) G.facts task.now (served_one served.entry) port.old) result) }
+    ensures made { AddsSome (S.outside system.now) timeline.old timeline.new (Performs (LocksAndRuns (S.outside system.now) (G.facts system.now) task.now (served_one served.entry) port.old) result) }
     ensures cause { OnErr result (OutputFails (S.outside system.now)) }
 {
     match lock(alloc, system, timeline, task.kept, BESIDE_KEPT) {
@@ -147,7 +147,7 @@ fn tell_and_serve<'a, S: System, G: Games<S> + Drop>(
     system: &S,
     timeline: &mut S::Timeline,
 ) -> Result<u8, WriteFault>
-    ensures made { AddsSome (S.outside system.now) timeline.old timeline.new (Performs (TellsAndRuns (S.outside system.now) G.facts task.now (served_one served.entry) port.old) result) }
+    ensures made { AddsSome (S.outside system.now) timeline.old timeline.new (Performs (TellsAndRuns (S.outside system.now) (G.facts system.now) task.now (served_one served.entry) port.old) result) }
     ensures cause { OnErr result (OutputFails (S.outside system.now)) }
 {
     let line = match ready_line(alloc, system, port) {
@@ -169,7 +169,7 @@ fn start_at<'a, S: System, G: Games<S> + Drop>(
     system: &S,
     timeline: &mut S::Timeline,
 ) -> Result<u8, WriteFault>
-    ensures made { AddsSome (S.outside system.now) timeline.old timeline.new (Performs (ReadyIf (S.outside system.now) G.facts task.now (served_one served.entry) task.now.ready port.old) result) }
+    ensures made { AddsSome (S.outside system.now) timeline.old timeline.new (Performs (ReadyIf (S.outside system.now) (G.facts system.now) task.now (served_one served.entry) task.now.ready port.old) result) }
     ensures cause { OnErr result (OutputFails (S.outside system.now)) }
 {
     if task.ready {
@@ -187,7 +187,7 @@ fn bind_and_serve<'a, S: System, G: Games<S> + Drop>(
     system: &S,
     timeline: &mut S::Timeline,
 ) -> Result<u8, WriteFault>
-    ensures made { AddsSome (S.outside system.now) timeline.old timeline.new (Performs (BindsAndRuns (S.outside system.now) G.facts task.now (served_one served.entry)) result) }
+    ensures made { AddsSome (S.outside system.now) timeline.old timeline.new (Performs (BindsAndRuns (S.outside system.now) (G.facts system.now) task.now (served_one served.entry)) result) }
     ensures cause { OnErr result (OutputFails (S.outside system.now)) }
 {
     match bind(alloc, system, timeline, task.bind, task.to) {
@@ -198,7 +198,7 @@ fn bind_and_serve<'a, S: System, G: Games<S> + Drop>(
 
 /// The game that the words tell from this start, by tables with this manifest.
 fn one_game<'t>(task: &Listen<'t>, start: Position, manifest: &[u8]) -> OneGame<'t>
-    ensures { IsGameOf task.now start manifest.now result }
+    ensures { result ≡ game_of task.now start manifest.now }
 {
     OneGame::new(
         task.name.stamp(&start, manifest, task.delay),
@@ -216,7 +216,7 @@ fn served_from<'a, 't>(
     tables: Set<'a>,
     manifest: &'a [u8],
 ) -> OneServed<'a, OneGame<'t>>
-    ensures { IsOneServed task.now start tables.entry manifest.now (served_one result) }
+    ensures { served_one result ≡ served_of task.now start tables.entry manifest.now }
 {
     OneServed {
         config: ServerConfig {
@@ -240,7 +240,7 @@ fn listen_from<S: System>(
     system: &S,
     timeline: &mut S::Timeline,
 ) -> Result<u8, WriteFault>
-    ensures made { AddsSome (S.outside system.now) timeline.old timeline.new (Performs (ListensFrom (S.outside system.now) ⟦<OneGame<'static> as Games<S>>⟧.facts task.now sources.now start) result) }
+    ensures made { AddsSome (S.outside system.now) timeline.old timeline.new (Performs (ListensFrom (S.outside system.now) task.now sources.now start) result) }
     ensures cause { OnErr result (OutputFails (S.outside system.now)) }
 {
     let tables = match tables_of(alloc, sources, CacheSize::usual()) {
@@ -263,7 +263,7 @@ fn listen_by<S: System>(
     system: &S,
     timeline: &mut S::Timeline,
 ) -> Result<u8, WriteFault>
-    ensures made { AddsSome (S.outside system.now) timeline.old timeline.new (Performs (ListensBy (S.outside system.now) ⟦<OneGame<'static> as Games<S>>⟧.facts task.now sources.now) result) }
+    ensures made { AddsSome (S.outside system.now) timeline.old timeline.new (Performs (ListensBy (S.outside system.now) task.now sources.now) result) }
     ensures cause { OnErr result (OutputFails (S.outside system.now)) }
 {
     match read(task.start.as_bytes()) {
@@ -298,7 +298,7 @@ pub fn listen<S: System>(
     system: &S,
     timeline: &mut S::Timeline,
 ) -> Result<u8, WriteFault>
-    ensures made { AddsSome (S.outside system.now) timeline.old timeline.new (Performs (Listens (S.outside system.now) ⟦<OneGame<'static> as Games<S>>⟧.facts task.now) result) }
+    ensures made { AddsSome (S.outside system.now) timeline.old timeline.new (Performs (Listens (S.outside system.now) task.now) result) }
     ensures cause { OnErr result (OutputFails (S.outside system.now)) }
 {
     let places = places_of(task);

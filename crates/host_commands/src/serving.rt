@@ -20,9 +20,9 @@ pub(crate) fn serve_all<'a, S: System, G: Games<S> + Drop>(
     system: &S,
     timeline: &mut S::Timeline,
 ) -> Result<u8, WriteFault>
-    requires seats { AreSeats (S.outside system.now) G.facts at.old.server }
+    requires seats { AreSeats (S.outside system.now) (G.facts system.now) at.old.server }
     requires none { KnowsLines at.old.lines [] }
-    ensures made { AddsSome (S.outside system.now) timeline.old timeline.new (Performs (AnswersAll (S.outside system.now) G.facts at.old.replies.most n ((S.outside system.now).port port.old).to (form_in at.old.lines) at.old.server) result) }
+    ensures made { AddsSome (S.outside system.now) timeline.old timeline.new (Performs (AnswersAll (S.outside system.now) (G.facts system.now) at.old.replies.most n ((S.outside system.now).port port.old).to (form_in at.old.lines) at.old.server) result) }
     ensures cause { OnErr result (OutputFails (S.outside system.now)) }
 {
     serve(at, system, timeline, port, n)

@@ -9,7 +9,6 @@ use Rattle.board_core.specs.declared.parts.Parts.{Parts}
 use Rattle.command_line.specs.Addresses.{addresses_of}
 use Rattle.command_line.specs.declared.commands.listen.Listen.{Listen}
 use Rattle.game_folder.specs.Holdings.{GamesFacts}
-use Rattle.game_folder.specs.declared.one_game.OneGame.{OneGame}
 use Rattle.system_io.specs.declared.host.BindFault.{BindFault}
 use Rattle.system_io.specs.declared.host.BindFault.TheVariants as bind
 use Rattle.task_files.specs.Given.{Given}
@@ -58,5 +57,5 @@ abbrev pub TellsAndRuns : {T P F K S L G : Type 0} → Outside T P F K S L → G
 TellsAndRuns o facts l s port = TellsReady (o.port port).own (LocksAndRuns o facts l s port)
 
 -- from a start, by what was read
-abbrev pub ListensFrom : {T P F K S L : Type 0} → Outside T P F K S L → GamesFacts OneGame → Listen → Given → Parts → Doing
-ListensFrom o facts l given start = ThenOrRefused (GathersTables given usual_cache) (λ set. ThenOrRefused (MakesManifest given) (RunsGame o facts l start set))
+abbrev pub ListensFrom : {T P F K S L : Type 0} → Outside T P F K S L → Listen → Given → Parts → Doing
+ListensFrom o l given start = ThenOrRefused (GathersTables given usual_cache) (λ set. ThenOrRefused (MakesManifest given) (RunsGame o l start set))

@@ -9,7 +9,7 @@ use Rattle.host_commands.proofs.hosting.go_on_unlogged.Goals as goal
 pub returns-clause-made : goal.returns-clause-made
 returns-clause-made g c =
     let o = g.S.System.outside c.args.system.now in
-    let facts = g.G.Games.facts in
+    let facts = g.G.Games.facts c.args.system.now in
     let at = c.args.at.now in
     let quiet = c.silence.ensures in
     let to = (o.port c.args.port.now).to in

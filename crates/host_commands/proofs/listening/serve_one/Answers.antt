@@ -11,7 +11,7 @@ use Rattle.host_commands.proofs.listening.serve_one.Goals as goal
 pub returns-in-Ok-clause-made : goal.returns-in-Ok-clause-made
 returns-in-Ok-clause-made g c =
     let o = g.S.System.outside c.args.system.now in
-    let facts = g.G.Games.facts in
+    let facts = g.G.Games.facts c.args.system.now in
     let l = c.args.task.now in
     let common = common_with c.args.served.config c.args.served.tables in
     let at = c.in-Ok.at in
