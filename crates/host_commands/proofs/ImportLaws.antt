@@ -62,6 +62,7 @@ module _ {T P F K S L : Type 0} (o : Outside T P F K S L) (folder : List ℕ) (s
 
   pub one_seen : (stamps : List (List ℕ)) (stamp : List ℕ) (a b c : T) (seen : Seen) (arrivals arrivals' : Arrivals) → HasSeen stamps a b arrivals → AddsSome o b c (SeesGame o folder store stamp (Ok seen))
       → AddsSeen stamp seen arrivals.entries.items arrivals.left.items arrivals'.entries.items arrivals'.left.items → HasSeen (stamps ++ stamp ∷ []) a c arrivals'
+  unfolding one_more
   one_seen stamps stamp a b c seen arrivals arrivals' h p adds =
       let kept = p.2.0 in
       let look = look_of stamp kept in

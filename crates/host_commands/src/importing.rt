@@ -62,7 +62,7 @@ fn add<T: Drop>(items: &mut Vec<T>, item: T) -> Result<(), AllocError>
 
 /// Adds what is found of one more game.
 fn add_seen(coming: &mut Arrivals, stamp: Stamp, seen: Seen) -> Result<(), AllocError>
-    ensures { OnOk result (AddsSeen stamp seen.entry coming.old.entries.items coming.old.left.items coming.new.entries.items coming.new.left.items) }
+    ensures { OnOk result (AddsSeen stamp seen coming.old.entries.items coming.old.left.items coming.new.entries.items coming.new.left.items) }
 {
     match seen {
         Seen::InStore => Ok(()),
@@ -106,7 +106,7 @@ fn put_coming<S: System>(
     entries: Vec<Entry>,
 ) -> Result<(), Refusal>
     requires settled { IsSettled ((S.outside system.now).store store.old) }
-    ensures made { AddsSome (S.outside system.now) timeline.old timeline.new (PutsComing (S.outside system.now) store.old entries.entry.items (put_or store.new result)) }
+    ensures made { AddsSome (S.outside system.now) timeline.old timeline.new (PutsComing (S.outside system.now) store.old entries.items (put_or store.new result)) }
     ensures settled { OnOk result (IsSettled ((S.outside system.now).store store.new)) }
 {
     if entries.is_empty() {
