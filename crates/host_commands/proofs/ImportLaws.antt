@@ -2,12 +2,17 @@
 use Rattle.std.proofs.Common.{◌≡◌, ◌∙◌, ◌∷◌, ◌++◌, ◌+◌, [], ℕ, List, append_assoc, ap, drop, drop-cons, get_or, length, map, refl, subst, suc, sym, take, take-append-drop}
 use Rattle.std.proofs.lemmas.List.{map-append, take_all, take_more}
 use Rattle.std.proofs.lemmas.List.Concat.{flat_map-append}
+use Rattle.std.specs.Cmp.Lexicographic.{slice_cmp}
 use Rattle.std.specs.Global.{Global}
 use Rattle.std.specs.List.{AllByRecursion, flat_map}
-use Rattle.std.specs.Prelude.{Result, Ok, Err, Vec, ◌<◌, ◌≤◌}
+use Rattle.std.specs.List.Sorted.{IsStrictlySortedBy}
+use Rattle.std.specs.Ordering.{nat_cmp}
+use Rattle.std.specs.Prelude.{Result, Ok, Err, IfOk, OnOk, Vec, ◌<◌}
 use Rattle.answer_parts.specs.Lines.{refusal_words}
 use Rattle.answer_parts.specs.declared.answers.refusals.Refusal.{Refusal}
-use Rattle.host_commands.specs.Imports.{AllImported, AllSeen, FolderIsNot, Imported, ImportsRecords, IsLook, Look, LooksAtAll, NoRoomFor, NoRoomForStamps, NotPut, OneFails, OneUnseen, PutsComing, all_look_events, coming, entry_in, left_by, left_in, look_events, stamps_of}
+use Rattle.game_status.proofs.ListingLaws.{are_stamps}
+use Rattle.game_status.specs.Listings.{AddsStamps, AreStampsIn, kept_ending}
+use Rattle.host_commands.specs.Imports.{AllImported, AreListed, AllSeen, FolderIsNot, Imported, ImportsRecords, IsLook, Look, LooksAtAll, NoRoomFor, NoRoomForStamps, NotPut, OneFails, OneUnseen, PutsComing, all_look_events, coming, entry_in, left_by, left_in, look_events, stamps_of}
 use Rattle.host_commands.specs.Inside.Importing.{AddsSeen, AreArrivals, CannotListKept, ListsKept, LooksAtThese, NoNames, NoRoomForThem, SeesGame, imported_or, look_of, put_or}
 use Rattle.host_commands.specs.declared.arriving.Seen.{Seen}
 use Rattle.host_commands.specs.declared.importing.Arrivals.{Arrivals}
@@ -137,3 +142,11 @@ module _ {T P F K S L : Type 0} (o : Outside T P F K S L) (folder : List ℕ) (o
         after_names a b d names p.0 (q.0 ++ s.0) p.2.3 p.1 (adds_more o b c d q.0 s.0 q.1 s.1),
         AllImported names stamps.items looks new q.0 s.0 p.2.1 p.2.2 q.2.2 putting (ap (λ (left : List (List ℕ)). Ok (record { store = new; left = left })) q.2.1.left) refl,
       )
+
+-- the stamps that names tell, in rising order
+pub listed_so : {E : Type 0} (names old keys : List (List ℕ)) → old ≡ [] → AddsStamps names kept_ending old keys → (r : Result (Vec (List ℕ) Global) E) → IfOk r (λ all. all.items ≡ keys) → OnOk r (IsStrictlySortedBy (slice_cmp nat_cmp) keys) → IfOk r (λ stamps. AreListed names stamps.items)
+listed_so names old keys empty adds (Ok all) is sorted = record {
+  are = subst (AreStampsIn names kept_ending) (sym is) (are_stamps names kept_ending old keys empty adds);
+  rising = subst (IsStrictlySortedBy (slice_cmp nat_cmp)) (sym is) sorted;
+}
+listed_so names old keys empty adds (Err e) is sorted = tt

@@ -6,3 +6,4 @@ pub mod ListenLaws
 pub mod HostLaws
 pub mod LookLaws
 pub mod ImportLaws
+pub mod OpenLaws

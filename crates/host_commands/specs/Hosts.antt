@@ -15,6 +15,7 @@ use Rattle.game_folder.specs.StoreGames.{StoredGames, store_games_facts}
 use Rattle.game_folder.specs.declared.folder_games.FolderGames.{FolderGames}
 use Rattle.game_server.specs.Printing.{OfGames}
 use Rattle.game_server.specs.declared.server.Server.{Server}
+use Rattle.game_status.specs.StoreReadings.{store_path}
 use Rattle.judge_core.specs.Tables.{Holding}
 use Rattle.move_msg.specs.Senders.{who_number}
 use Rattle.system_io.specs.declared.recipient.Recipient.{Recipient}
@@ -90,8 +91,8 @@ pub data KeepsInStore {T P F K S L : Type 0} (o : Outside T P F K S L) (folder :
 
 -- the store of the folder is opened before
 pub data OpensGames {T P F K S L : Type 0} (o : Outside T P F K S L) (folder : List ℕ) (result : Result (StoredGames S) (List ℕ)) (events : List Event) : Type 0 where
-  NoStore : (words : List ℕ) → OpensStore o folder (Err words) events → result ≡ Err words → OpensGames o folder result events
-  OverStore : (store : S) (opening rest : List Event) → OpensStore o folder (Ok store) opening → KeepsInStore o folder store result rest → events ≡ opening ++ rest → OpensGames o folder result events
+  NoStore : (words : List ℕ) → OpensStore o (store_path folder) (Err words) events → result ≡ Err words → OpensGames o folder result events
+  OverStore : (store : S) (opening rest : List Event) → OpensStore o (store_path folder) (Ok store) opening → KeepsInStore o folder store result rest → events ≡ opening ++ rest → OpensGames o folder result events
 
 module _ {T P F K S L : Type 0} (o : Outside T P F K S L) (h : HostGames) where
   -- the games of the folder, with a file for each record

@@ -9,7 +9,6 @@ use Rattle.arbiter_server.specs.GameFolders.{kept_path}
 use Rattle.arbiter_server.specs.ServedLines.{refused_keeper, refused_store}
 use Rattle.game_status.specs.Imports.{IsEntryOf, IsNoRecordOf, most_kept}
 use Rattle.game_status.specs.Listings.{AreStampsIn, kept_ending}
-use Rattle.game_status.specs.StoreReadings.{store_path}
 use Rattle.line_teller.specs.ToldLines.{cut_words, refused_memory}
 use Rattle.system_io.specs.Disks.{AtFile, AtFolder, DiskFacts, HasMore}
 use Rattle.system_io.specs.Records.{AreSame, IsSettled, with_all}
@@ -27,11 +26,11 @@ abbrev pub store_refusal : StoreFault → List ℕ
 store_refusal store_fault.Unreadable = refused_store
 store_refusal store_fault.OutOfMemory = refused_memory
 
--- the store of a folder is opened, in which a start finds what it has; or it can't be; or memory for its path was refused
-pub data OpensStore {T P F K S L : Type 0} (o : Outside T P F K S L) (folder : List ℕ) (result : Result S (List ℕ)) (events : List Event) : Type 0 where
-  StoreIs : (store : S) → o.stores.is_at (store_path folder) store → o.store_path store ≡ store_path folder → IsSettled (o.store store) → result ≡ Ok store → events ≡ StoreOpened (store_path folder) (Ok tt) ∷ [] → OpensStore o folder result events
-  StoreIsNot : (why : StoreFault) → o.stores.refuses (store_path folder) why → result ≡ Err (store_refusal why) → events ≡ StoreOpened (store_path folder) (Err why) ∷ [] → OpensStore o folder result events
-  NoRoomForStore : result ≡ Err refused_memory → events ≡ [] → OpensStore o folder result events
+-- the store at a path is opened, in which a start finds what it has; or it can't be; or memory for the path was refused
+pub data OpensStore {T P F K S L : Type 0} (o : Outside T P F K S L) (path : List ℕ) (result : Result S (List ℕ)) (events : List Event) : Type 0 where
+  StoreIs : (store : S) → o.stores.is_at path store → o.store_path store ≡ path → IsSettled (o.store store) → result ≡ Ok store → events ≡ StoreOpened path (Ok tt) ∷ [] → OpensStore o path result events
+  StoreIsNot : (why : StoreFault) → o.stores.refuses path why → result ≡ Err (store_refusal why) → events ≡ StoreOpened path (Err why) ∷ [] → OpensStore o path result events
+  NoRoomForStore : result ≡ Err refused_memory → events ≡ [] → OpensStore o path result events
 
 -- ---- one game whose record is listed as a file
 

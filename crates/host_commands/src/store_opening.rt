@@ -1,6 +1,6 @@
 //! The games of a folder whose records are kept in its store.
 
-ghost use Rattle.std.specs.Prelude.{◌≡◌, ℕ, List, string_bytes, IfOk};
+ghost use Rattle.std.specs.Prelude.{string_bytes, IfOk};
 ghost use Rattle.arbiter_server.specs.GameFolders.{kept_path};
 ghost use Rattle.game_status.specs.StoreReadings.{store_path};
 ghost use Rattle.host_commands.specs.Hosts.{KeepsInStore, OpensGames};
@@ -27,7 +27,8 @@ fn store_at<S: System>(
     timeline: &mut S::Timeline,
     path: &str,
 ) -> Result<S::Store, Refusal>
-    ensures { (folder : List ℕ) → path.now ≡ store_path folder → AddsSome (S.outside system.now) timeline.old timeline.new (OpensStore (S.outside system.now) folder (in_words result)) }
+    ensures made { AddsSome (S.outside system.now) timeline.old timeline.new (OpensStore (S.outside system.now) path.now (in_words result)) }
+    ensures settled { IfOk result (λ store. IsSettled ((S.outside system.now).store store)) }
 {
     match system.store(timeline, alloc, path) {
         Ok(store) => Ok(store),
@@ -43,7 +44,7 @@ fn open_store<S: System>(
     timeline: &mut S::Timeline,
     folder: &str,
 ) -> Result<S::Store, Refusal>
-    ensures made { AddsSome (S.outside system.now) timeline.old timeline.new (OpensStore (S.outside system.now) folder.now (in_words result)) }
+    ensures made { AddsSome (S.outside system.now) timeline.old timeline.new (OpensStore (S.outside system.now) (store_path folder.now) (in_words result)) }
     ensures settled { IfOk result (λ store. IsSettled ((S.outside system.now).store store)) }
 {
     match path_in(alloc, folder, STORE_NAME) {
