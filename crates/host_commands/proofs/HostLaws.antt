@@ -6,7 +6,9 @@ use Rattle.answer_parts.specs.Printing.{Performs, Prints}
 use Rattle.arbiter_server.specs.Games.{CommonView}
 use Rattle.arbiter_server.specs.declared.line_log.LogForm.TheVariants.{Nothing}
 use Rattle.command_line.specs.declared.commands.host.HostGames.{HostGames}
+use Rattle.game_folder.specs.FolderGames.{folder_games_facts}
 use Rattle.game_folder.specs.Holdings.{GamesFacts}
+use Rattle.game_folder.specs.declared.folder_games.FolderGames.{FolderGames}
 use Rattle.game_server.specs.Printing.{OfGames}
 use Rattle.game_server.specs.declared.server.Server.{Server}
 use Rattle.judge_core.specs.Tables.{Holding}
@@ -16,7 +18,7 @@ use Rattle.task_files.specs.Given.{Given}
 use Rattle.timeline.specs.Events.{Event, Noted}
 use Rattle.timeline.specs.Outsides.{Adds, AddsSome, Outside}
 use Rattle.host_commands.proofs.StepLaws.{goes_on, goes_on_so, is_refused, is_refused_so}
-use Rattle.host_commands.specs.Hosts.{AnswersLogged, GamesServed, HostsBy, LocksAndRuns, Logged, NotesAndRuns, RunsGames, Unlogged, common_for, log_lost, tables_line}
+use Rattle.host_commands.specs.Hosts.{AnswersLogged, BindsAndRuns, GamesServed, HostsBy, LocksAndRuns, Logged, NotesAndRuns, RunsFiles, RunsGames, Unlogged, common_for, log_lost, tables_line}
 use Rattle.host_commands.specs.Inside.HostParts.{GoesOnUnlogged}
 use Rattle.host_commands.specs.Listings.{ListsGames}
 use Rattle.host_commands.specs.Notes.{MayNote}
@@ -73,6 +75,11 @@ module _ {T P F K S L : Type 0} (o : Outside T P F K S L) (h : HostGames) (given
       → common ≡ common_for h set manifest → read ≡ length given.files → AddsSome o b c (Performs (LocksAndRuns o h common read) r) → AddsSome o a c (Performs (HostsBy o h given) r)
   hosted_by a b c set manifest common read r tables p made is count q =
       let one : AddsSome o b c (Performs (LocksAndRuns o h (common_for h set manifest) (length given.files)) r) =
-          subst (λ (n : ℕ). AddsSome o b c (Performs (LocksAndRuns o h (common_for h set manifest) n) r)) count (subst (λ (x : CommonView). AddsSome o b c (Performs (LocksAndRuns o h x read) r)) is q) in
+      subst (λ (n : ℕ). AddsSome o b c (Performs (LocksAndRuns o h (common_for h set manifest) n) r)) count (subst (λ (x : CommonView). AddsSome o b c (Performs (LocksAndRuns o h x read) r)) is q) in
       goes_on_so o a c (GathersTables given h.cache) Gathered set r tables (goes_on o a b c (ListsGames o.disk h.games.now h.store) (λ listed. Manifested set) tt r p
       (goes_on_so o b c (MakesManifest given) (λ m. LocksAndRuns o h (common_for h set m) (length given.files)) manifest r made one))
+
+-- the games of the folder, with a file for each record
+pub files_so : {T P F K S L : Type 0} (o : Outside T P F K S L) (h : HostGames) (common : CommonView) (read : ℕ) (a b : T) (games : FolderGames) (r : Result ℕ WriteFault) → games.folder.now ≡ h.games.now
+    → AddsSome o a b (Performs (BindsAndRuns o folder_games_facts h read (record { common = common; games = games })) r) → AddsSome o a b (Performs (RunsFiles o h common read) r)
+files_so o h common read a b games r is p = does_so o a b (BindsAndRuns o folder_games_facts h read (record { common = common; games = games })) (RunsFiles o h common read) r (λ events status runs. record { games = games; folder = is; runs = runs }) p

@@ -38,7 +38,7 @@ module _ {T P F K S L G : Type 0} (o : Outside T P F K S L) (facts : GamesFacts 
         → AddsSome o c d (Performs (AnswersAll o facts most l.datagrams (o.port port).to (OfOne stamp) opened) r) → AddsSome o a d (Performs (OpensAndAnswers o facts l most stamp port server) r)
     opened_so a b c d opened r p q s =
         let asked : AddsSome o b d (Performs (AsksAndAnswers o facts l most stamp port opened) r) =
-            then_does o b c d q.0 (AnswersAll o facts most l.datagrams (o.port port).to (OfOne stamp) opened) (AsksAndAnswers o facts l most stamp port opened) r (λ events status h. record { asking = q.0; rest = events; asks = q.2; answers = h; all = refl }) q.1 s in
+        then_does o b c d q.0 (AnswersAll o facts most l.datagrams (o.port port).to (OfOne stamp) opened) (AsksAndAnswers o facts l most stamp port opened) r (λ events status h. record { asking = q.0; rest = events; asks = q.2; answers = h; all = refl }) q.1 s in
         goes_on o a b d (OpensGame o facts l most stamp server) (AsksAndAnswers o facts l most stamp port) opened r (p.0, p.1, GameIsOpen opened p.2 refl) asked
 
     -- or it isn't

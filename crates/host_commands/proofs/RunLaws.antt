@@ -51,7 +51,7 @@ lines_cut form before all events c =
     let out : List Event = lines_out form before c.first in
     let cut : IsCutIn (out ++ text_events c.text WentOut) (out ++ text_events c.text c.end) = cut_behind out (text_events c.text WentOut) (text_events c.text c.end) (text_cut c.text c.end c.failed) in
     let whole : lines_out form before all ≡ (out ++ text_events c.text WentOut) ++ parted.0 =
-        ap (λ (ls : List Line). lines_out form before ls) c.are ∙ parted.1 ∙ ap (λ (t : Option (List ℕ)). (out ++ text_out t) ++ parted.0) c.its in
+    ap (λ (ls : List Line). lines_out form before ls) c.are ∙ parted.1 ∙ ap (λ (t : Option (List ℕ)). (out ++ text_out t) ++ parted.0) c.its in
     subst (λ (e : List Event). IsCutIn e events) (sym whole) (subst (λ (e : List Event). IsCutIn ((out ++ text_events c.text WentOut) ++ parted.0) e) (sym c.events_are) (cut_on (out ++ text_events c.text WentOut) parted.0 (out ++ text_events c.text c.end) cut))
 
 all_push : (turns : List Turn) (t : Turn) → AllByRecursion GoesOnAfter turns → GoesOnAfter t → AllByRecursion GoesOnAfter (turns ++ t ∷ [])

@@ -139,11 +139,12 @@ pub(crate) fn import_records<S: System>(
         Ok(stamps) => stamps,
         Err(refusal) => return Err(refusal),
     };
-    let Arrivals { entries, left } =
-        match look_at_all(alloc, system, timeline, folder, store, &stamps) {
-            Ok(coming) => coming,
-            Err(refusal) => return Err(refusal),
-        };
+    let Arrivals { entries, left } = match look_at_all(
+        alloc, system, timeline, folder, store, &stamps,
+    ) {
+        Ok(coming) => coming,
+        Err(refusal) => return Err(refusal),
+    };
     match put_coming(system, timeline, store, entries) {
         Ok(()) => Ok(left),
         Err(refusal) => Err(refusal),

@@ -1,7 +1,9 @@
-use Rattle.std.proofs.Common.{◌∙◌, length}
+use Rattle.std.proofs.Common.{◌∙◌, List, ap, length, sym}
+use Rattle.std.proofs.lemmas.List.{length-map}
 use Rattle.answer_parts.specs.Lines.{refusal_words}
 use Rattle.arbiter_server.specs.Games.{common_with}
 use Rattle.host_commands.proofs.HostLaws.{hosted_by, no_folder, no_manifest, no_tables}
+use Rattle.move_msg.specs.Files.{File, table_file_of}
 use Rattle.host_commands.proofs.hosting.host_by.Goals as goal
 
 pub returns-in-Err-clause-made : goal.returns-in-Err-clause-made
@@ -20,4 +22,4 @@ pub returns-clause-made : goal.returns-clause-made
 returns-clause-made g c =
     let common = common_with c.config_for.result c.in-Ok.tables in
     hosted_by (g.S.System.outside c.args.system.now) c.args.task.now c.args.sources.now _ _ _ c.in-Ok.tables c.in-Ok-make_manifest.manifest.items common _ c.lock_and_serve.result c.in-Ok.ensures c.in-Ok-list_games.ensures c.in-Ok-make_manifest.ensures
-    (rw c.deref.ensures.value at c.config_for.ensures c.in-Ok.tables) ? c.lock_and_serve.ensures.made
+    (rw c.deref.ensures.value at c.config_for.ensures c.in-Ok.tables) (sym (length-map c.files.result.now table_file_of) ∙ ap (λ (fs : List File). length fs) c.files.ensures.files) c.lock_and_serve.ensures.made

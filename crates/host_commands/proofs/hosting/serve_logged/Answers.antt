@@ -37,5 +37,5 @@ returns-else-not-task-clause-made g c =
     let to = (o.port c.args.port.now).to in
     let lost = run_lost o facts at.replies.most (OfGames h.log) h.datagrams to at.server left.server _ _ c.in-Err.fault (rw c.requires.lines at c.in-Err.ensures.run) in
     let rest = subst (λ (most : ℕ). AddsSome o c.serve.new.timeline c.go_on_unlogged.new.timeline (Performs (GoesOnUnlogged o facts most h.datagrams to left.server) c.go_on_unlogged.result)) c.in-Err.ensures.most
-        (subst (λ (who : List Recipient). AddsSome o c.serve.new.timeline c.go_on_unlogged.new.timeline (Performs (GoesOnUnlogged o facts left.replies.most h.datagrams who left.server) c.go_on_unlogged.result)) c.in-Err.ensures.same.to c.go_on_unlogged.ensures.made) in
+    (subst (λ (who : List Recipient). AddsSome o c.serve.new.timeline c.go_on_unlogged.new.timeline (Performs (GoesOnUnlogged o facts left.replies.most h.datagrams who left.server) c.go_on_unlogged.result)) c.in-Err.ensures.same.to c.go_on_unlogged.ensures.made) in
     outlived_so o facts h at.replies.most to at.server _ _ _ left.server c.go_on_unlogged.result c.if-not-task.false lost rest

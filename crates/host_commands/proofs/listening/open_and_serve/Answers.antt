@@ -12,7 +12,7 @@ returns-in-Ok-clause-made g c =
     let left = c.open_game.new.at in
     let opened = c.in-Ok.ensures in
     let served = answers_as o facts c.args.task.now.datagrams left.server _ _ c.serve_all.result left.replies.most at.replies.most (o.port c.ask_if.new.port).to (o.port c.args.port.now).to (form_in left.lines) (OfOne c.args.stamp)
-        (ap (λ (x : RepliesView). x.most) opened.replies) c.ask_if.ensures.same.same.to (ap form_in (opened.lines ∙ c.requires.lines)) c.serve_all.ensures.made in
+    (ap (λ (x : RepliesView). x.most) opened.replies) c.ask_if.ensures.same.same.to (ap form_in (opened.lines ∙ c.requires.lines)) c.serve_all.ensures.made in
     opened_so o facts c.args.task.now at.replies.most c.args.stamp c.args.port.now at.server _ _ _ _ left.server c.serve_all.result c.in-Ok.ensures.made c.ask_if.ensures.made served
 
 pub returns-in-Err-clause-made : goal.returns-in-Err-clause-made
