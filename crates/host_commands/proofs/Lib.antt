@@ -1,0 +1,9 @@
+pub mod StepLaws
+pub mod BindLaws
+pub mod RunLaws
+pub mod ListLaws
+pub mod ListenLaws
+pub mod HostLaws
+pub mod LookLaws
+pub mod ImportLaws
+pub mod OpenLaws

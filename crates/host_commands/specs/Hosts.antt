@@ -1,0 +1,126 @@
+-- `host`: arbiters of the games of a folder, at one port (this project's own).
+use Rattle.std.specs.Prelude.{◌≡◌, ◌++◌, ℕ, true, List, [], ◌∷◌, Option, Some, None, Result, Ok, Err, codes, length}
+use Rattle.std.specs.Fmt.{decimal}
+use Rattle.std.specs.NonZero.{non_zero_usize_get}
+use Rattle.arbiter_server.specs.Games.{CommonView}
+use Rattle.arbiter_server.specs.declared.line_log.LogForm.{LogForm}
+use Rattle.arbiter_server.specs.declared.line_log.LogForm.TheVariants.{Nothing}
+use Rattle.command_line.specs.Commands.Host.{named}
+use Rattle.command_line.specs.declared.commands.host.HostGames.{HostGames}
+use Rattle.command_line.specs.declared.words.numbers.StoreForm.{StoreForm}
+use Rattle.command_line.specs.declared.words.numbers.StoreForm.TheVariants as form
+use Rattle.game_folder.specs.Holdings.{GamesFacts}
+use Rattle.game_folder.specs.FolderGames.{folder_games_facts}
+use Rattle.game_folder.specs.StoreGames.{StoredGames, store_games_facts}
+use Rattle.game_folder.specs.declared.folder_games.FolderGames.{FolderGames}
+use Rattle.game_server.specs.Printing.{OfGames}
+use Rattle.game_server.specs.declared.server.Server.{Server}
+use Rattle.game_status.specs.StoreReadings.{store_path}
+use Rattle.judge_core.specs.Tables.{Holding}
+use Rattle.move_msg.specs.Senders.{who_number}
+use Rattle.system_io.specs.declared.recipient.Recipient.{Recipient}
+use Rattle.task_files.specs.Given.{Given}
+use Rattle.timeline.specs.Events.{Event, Noted}
+use Rattle.timeline.specs.Outsides.{Outside}
+use Rattle.host_commands.specs.Binds.{BindsPort}
+use Rattle.host_commands.specs.Imports.{ImportsRecords, Imported, NotesAllLeft, OpensStore}
+use Rattle.host_commands.specs.Listings.{ListsGames}
+use Rattle.host_commands.specs.Locks.{LocksFile, games_lock}
+use Rattle.host_commands.specs.Notes.{MayNote}
+use Rattle.host_commands.specs.Ready.{TellsReady}
+use Rattle.host_commands.specs.ServerRuns.{AnswersAll, IsServer, LosesLine}
+use Rattle.host_commands.specs.Steps.{Doing, ThenOrRefused}
+use Rattle.host_commands.specs.Tables.{GathersTables, MakesManifest, ReadsNamed}
+
+-- how many datagrams are answered together: with a store those that have come, since what their games keep is committed at once
+abbrev pub together_of : StoreForm → ℕ
+together_of form.Sqlite = 256
+together_of form.Files = 1
+
+-- what the games have in common
+abbrev pub common_for : HostGames → Holding → List ℕ → CommonView
+common_for h set manifest = record { manifest = manifest; number = who_number h.me; set = set; at_once = non_zero_usize_get h.at_once; together = together_of h.store }
+
+abbrev pub log_lost : List ℕ
+log_lost = codes "the log can't be written: the games go on without it"
+
+abbrev pub tables_line : ℕ → List ℕ
+tables_line read = codes "tables " ++ decimal read
+
+-- ---- a run
+
+-- what is served: what the games have in common, and where they are
+pub record GamesServed (G : Type 0) : Type 0 where
+  pub common : CommonView
+  pub games : G
+
+module _ {T P F K S L G : Type 0} (o : Outside T P F K S L) (facts : GamesFacts G) (h : HostGames) where
+  -- Datagrams are answered, with the lines of a log. Where the words say so, and a line can't be written, that is noted, and so many more
+  -- are answered without lines.
+  pub data AnswersLogged (most : ℕ) (to : List Recipient) (server : Server G F) (events : List Event) (status : Option ℕ) : Type 0 where
+    Logged : AnswersAll o facts most h.datagrams to (OfGames h.log) server events status → AnswersLogged most to server events status
+    Unlogged : h.outlives_log ≡ true → (mid : Server G F) (first rest : List Event) → LosesLine o facts most h.datagrams to (OfGames h.log) server mid first → AnswersAll o facts most h.datagrams to (OfGames Nothing) mid rest status
+        → events ≡ first ++ Noted log_lost ∷ rest → AnswersLogged most to server events status
+
+  abbrev pub RunsGames : GamesServed G → P → Doing
+  RunsGames s port = ThenOrRefused (IsServer s.common s.games) (AnswersLogged s.common.together (o.port port).to)
+
+  -- of how many files the tables were read is noted first
+  pub record NotesAndRuns (read : ℕ) (s : GamesServed G) (port : P) (events : List Event) (status : Option ℕ) : Type 0 where
+    pub noting : List Event
+    pub rest : List Event
+    pub notes : MayNote (tables_line read) noting
+    pub runs : RunsGames s port rest status
+    pub all : events ≡ noting ++ rest
+
+  -- the port is bound, and the address at which datagrams come is told before all else
+  abbrev pub BindsAndRuns : ℕ → GamesServed G → Doing
+  BindsAndRuns read s = ThenOrRefused (BindsPort o h.bind.now h.to.now) (λ port. TellsReady (o.port port).own (NotesAndRuns read s port))
+
+-- ---- how records are kept
+
+-- the games of a folder with this store, of which some are left: no record of theirs is given; nothing is noted yet
+abbrev pub stored_games : {S : Type 0} → List ℕ → S → List (List ℕ) → StoredGames S
+stored_games folder store left = record { folder = folder; store = store; noted = []; left = left; loss = None }
+
+-- The records of files go over into a store that hasn't them, and it is noted which files hold none; what games keep is put there from now
+-- on. Or why they don't go over.
+pub data KeepsInStore {T P F K S L : Type 0} (o : Outside T P F K S L) (folder : List ℕ) (store : S) (result : Result (StoredGames S) (List ℕ)) (events : List Event) : Type 0 where
+  NoImport : (words : List ℕ) → ImportsRecords o folder store (Err words) events → result ≡ Err words → KeepsInStore o folder store result events
+  IsKept : (now : Imported S) (importing noting : List Event) → ImportsRecords o folder store (Ok now) importing → NotesAllLeft folder now.left noting → result ≡ Ok (stored_games folder now.store now.left) → events ≡ importing ++ noting → KeepsInStore o folder store result events
+
+-- the store of the folder is opened before
+pub data OpensGames {T P F K S L : Type 0} (o : Outside T P F K S L) (folder : List ℕ) (result : Result (StoredGames S) (List ℕ)) (events : List Event) : Type 0 where
+  NoStore : (words : List ℕ) → OpensStore o (store_path folder) (Err words) events → result ≡ Err words → OpensGames o folder result events
+  OverStore : (store : S) (opening rest : List Event) → OpensStore o (store_path folder) (Ok store) opening → KeepsInStore o folder store result rest → events ≡ opening ++ rest → OpensGames o folder result events
+
+module _ {T P F K S L : Type 0} (o : Outside T P F K S L) (h : HostGames) where
+  -- the games of the folder, with a file for each record
+  pub record RunsFiles (common : CommonView) (read : ℕ) (events : List Event) (status : Option ℕ) : Type 0 where
+    pub games : FolderGames
+    pub folder : games.folder.now ≡ h.games.now
+    pub runs : BindsAndRuns o folder_games_facts h read (record { common = common; games = games }) events status
+
+  -- or with a store
+  abbrev pub RunsStore : CommonView → ℕ → Doing
+  RunsStore common read = ThenOrRefused (OpensGames o h.games.now) (λ games. BindsAndRuns o (store_games_facts o) h read (record { common = common; games = games }))
+
+  -- as the words say
+  abbrev pub RunsKept : StoreForm → CommonView → ℕ → Doing
+  RunsKept form.Files common read = RunsFiles common read
+  RunsKept form.Sqlite common read = RunsStore common read
+
+  -- under the lock of the folder
+  abbrev pub LocksAndRuns : CommonView → ℕ → Doing
+  LocksAndRuns common read = ThenOrRefused (LocksFile o (games_lock h.games.now)) (λ held. RunsKept h.store common read)
+
+  -- ---- all of it
+
+  -- by what was read: the tables are refused first, and then the folder of the games
+  abbrev pub HostsBy : Given → Doing
+  HostsBy given =
+      ThenOrRefused (GathersTables given h.cache) (λ set. ThenOrRefused (ListsGames o.disk h.games.now h.store) (λ listed. ThenOrRefused (MakesManifest given) (λ manifest. LocksAndRuns (common_for h set manifest) (length given.files))))
+
+  -- what the words name is read before all else
+  abbrev pub Hosts : Doing
+  Hosts = ThenOrRefused (ReadsNamed o (named h)) HostsBy

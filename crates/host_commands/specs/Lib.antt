@@ -1,0 +1,12 @@
+pub mod Notes
+pub mod Steps
+pub mod Binds
+pub mod Locks
+pub mod Ready
+pub mod Tables
+pub mod ServerRuns
+pub mod Listens
+pub mod Listings
+pub mod Imports
+pub mod Hosts
+pub mod Inside

@@ -1,0 +1,128 @@
+-- `listen`: an arbiter of one game, at a port (this project's own).
+use Rattle.std.specs.Prelude.{◌≡◌, ◌++◌, ℕ, Bool, true, false, List, [], ◌∷◌, Option, Some, None, Result, Ok, Err}
+use Rattle.answer_parts.specs.Lines.{refused_fen}
+use Rattle.arbiter_server.specs.GameFiles.{game_as_told}
+use Rattle.arbiter_server.specs.Games.{CommonView}
+use Rattle.arbiter_server.specs.ServedLines.{refused_keeper}
+use Rattle.arbiter_server.specs.declared.fault.OpenGameError.{OpenGameError}
+use Rattle.arbiter_server.specs.declared.fault.OpenGameError.TheVariants as unopened
+use Rattle.board_core.specs.Position.{IsPosition}
+use Rattle.board_core.specs.declared.parts.Parts.{Parts}
+use Rattle.command_line.specs.Commands.Listen.{named}
+use Rattle.command_line.specs.declared.commands.listen.Listen.{Listen}
+use Rattle.fen_text.specs.Fen.{IsFirstFenFault, SpellsPosition}
+use Rattle.fen_text.specs.Written.{fen_of}
+use Rattle.fen_text.specs.declared.fault.FenFault.{FenFault}
+use Rattle.game_folder.specs.Holdings.{GamesFacts}
+use Rattle.game_folder.specs.OneGame.{OneGameView, one_game_facts}
+use Rattle.game_server.specs.Printing.{OfOne}
+use Rattle.game_server.specs.Sending.{Address, IsRequestSpelled, address_of, request_sent}
+use Rattle.game_server.specs.Starting.{OpensUnasked, request_at}
+use Rattle.game_server.specs.declared.server.Server.{Server}
+use Rattle.judge_core.specs.Tables.{Holding}
+use Rattle.line_teller.specs.ToldLines.{refused_memory}
+use Rattle.move_msg.specs.Senders.{who_number}
+use Rattle.move_msg.specs.Stamps.{stamp_of}
+use Rattle.task_files.specs.Given.{Given}
+use Rattle.timeline.specs.Events.{Event}
+use Rattle.timeline.specs.Outsides.{Outside}
+use Rattle.host_commands.specs.Binds.{BindsPort}
+use Rattle.host_commands.specs.Locks.{LocksFile, kept_lock}
+use Rattle.host_commands.specs.Ready.{TellsReady}
+use Rattle.host_commands.specs.ServerRuns.{AnswersAll, IsServer}
+use Rattle.host_commands.specs.Steps.{Doing, ThenOrRefused}
+use Rattle.host_commands.specs.Tables.{GathersTables, MakesManifest, ReadsNamed}
+
+-- ---- what is served
+
+-- what the games of a server have in common, where they are, and the stamp of the one that is opened first
+pub record OneServed (G : Type 0) : Type 0 where
+  pub common : CommonView
+  pub games : G
+  pub stamp : List ℕ
+
+abbrev pub common_for : Listen → Holding → List ℕ → CommonView
+common_for l set manifest = record { manifest = manifest; number = who_number l.me; set = set; at_once = 1; together = 1 }
+
+-- the game that the words tell, whose record is in the file that they name
+abbrev pub game_of : Listen → Parts → List ℕ → OneGameView
+game_of l start manifest = record { at = record { stamp = stamp_of l.name (fen_of start) manifest l.delay; game = game_as_told l.name start l.delay; path = l.kept.now }; is_lost = false }
+
+-- it is what is served, under its stamp by the manifest of its tables
+abbrev pub served_of : Listen → Parts → Holding → List ℕ → OneServed OneGameView
+served_of l start set manifest = record { common = common_for l set manifest; games = game_of l start manifest; stamp = stamp_of l.name (fen_of start) manifest l.delay }
+
+-- the words of the start spell this position; or why they spell none; nothing happens for this
+pub data IsStart (text : List ℕ) (result : Result Parts (List ℕ)) (events : List Event) : Type 0 where
+  StartIs : (start : Parts) → SpellsPosition text start → IsPosition start → result ≡ Ok start → events ≡ [] → IsStart text result events
+  StartIsNone : (fault : FenFault) → IsFirstFenFault text fault → result ≡ Err (refused_fen fault) → events ≡ [] → IsStart text result events
+
+-- why the game isn't opened, as it is refused
+abbrev pub unopened_refusal : OpenGameError → List ℕ
+unopened_refusal unopened.NotOpen = refused_keeper
+unopened_refusal unopened.NoGame = refused_keeper
+unopened_refusal unopened.OtherGame = refused_keeper
+unopened_refusal (unopened.BadGame line) = refused_keeper
+unopened_refusal unopened.Keeper = refused_keeper
+unopened_refusal unopened.OutOfMemory = refused_memory
+
+-- ---- at a port
+
+-- the request for moves of a game goes out, where that is wanted and it has one
+abbrev pub AsksIf : {G F : Type 0} → Bool → Address → Server G F → List ℕ → List Event → Type 0
+AsksIf false to server stamp events = events ≡ []
+AsksIf true to server stamp events = IsRequestSpelled (request_at server stamp) × (events ≡ request_sent to (request_at server stamp))
+
+-- of a game with this stamp, where so many datagrams are answered together at most
+module _ {T P F K S L G : Type 0} (o : Outside T P F K S L) (facts : GamesFacts G) (l : Listen) (most : ℕ) (stamp : List ℕ) where
+  -- it is opened over its record by these events, and no other one is; or it isn't
+  pub data OpensGame (server : Server G F) (result : Result (Server G F) (List ℕ)) (events : List Event) : Type 0 where
+    GameIsOpen : (opened : Server G F) → OpensUnasked o facts server opened stamp (Ok tt) events → result ≡ Ok opened → OpensGame server result events
+    GameIsNotOpen : (why : OpenGameError) (left : Server G F) → OpensUnasked o facts server left stamp (Err why) events → result ≡ Err (unopened_refusal why) → OpensGame server result events
+
+  -- its request for moves goes out, where that is wanted, and then datagrams are answered
+  pub record AsksAndAnswers (port : P) (server : Server G F) (events : List Event) (status : Option ℕ) : Type 0 where
+    pub asking : List Event
+    pub rest : List Event
+    pub asks : AsksIf l.fetch (address_of (o.port port)) server stamp asking
+    pub answers : AnswersAll o facts most l.datagrams (o.port port).to (OfOne stamp) server rest status
+    pub all : events ≡ asking ++ rest
+
+  -- the game is opened before the first datagram is awaited
+  abbrev pub OpensAndAnswers : P → Server G F → Doing
+  OpensAndAnswers port server = ThenOrRefused (OpensGame server) (AsksAndAnswers port)
+
+module _ {T P F K S L G : Type 0} (o : Outside T P F K S L) (facts : GamesFacts G) (l : Listen) (s : OneServed G) where
+  abbrev pub RunsOne : P → Doing
+  RunsOne port = ThenOrRefused (IsServer s.common s.games) (OpensAndAnswers o facts l s.common.together s.stamp port)
+
+  -- under the lock of its file
+  abbrev pub LocksAndRuns : P → Doing
+  LocksAndRuns port = ThenOrRefused (LocksFile o (kept_lock l.kept.now)) (λ held. RunsOne port)
+
+  -- the address at which datagrams come is told before, where that is wanted
+  abbrev pub ReadyIf : Bool → P → Doing
+  ReadyIf false port = LocksAndRuns port
+  ReadyIf true port = TellsReady (o.port port).own (LocksAndRuns port)
+
+  abbrev pub BindsAndRuns : Doing
+  BindsAndRuns = ThenOrRefused (BindsPort o l.bind.now l.to.now) (ReadyIf l.ready)
+
+-- ---- all of it
+
+-- a set of tables keeps so many decoded blocks unless words say another number
+abbrev pub usual_cache : ℕ
+usual_cache = 64
+
+module _ {T P F K S L : Type 0} (o : Outside T P F K S L) (l : Listen) where
+  -- the arbiter of the game that the words tell, by these tables
+  abbrev pub RunsGame : Parts → Holding → List ℕ → Doing
+  RunsGame start set manifest = BindsAndRuns o one_game_facts l (served_of l start set manifest)
+
+  -- by what was read: the text of the start is refused first, and then the tables
+  abbrev pub ListensBy : Given → Doing
+  ListensBy given = ThenOrRefused (IsStart l.start.now) (λ start. ThenOrRefused (GathersTables given usual_cache) (λ set. ThenOrRefused (MakesManifest given) (RunsGame start set)))
+
+  -- what the words name is read before all else
+  abbrev pub Listens : Doing
+  Listens = ThenOrRefused (ReadsNamed o (named l)) ListensBy

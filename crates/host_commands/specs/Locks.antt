@@ -1,0 +1,27 @@
+-- The locks that keep a second process from the same files (this project's own).
+use Rattle.std.specs.Prelude.{◌≡◌, ◌++◌, ℕ, List, [], ◌∷◌, Result, Ok, Err, codes}
+use Rattle.answer_parts.specs.Lines.{refused_in_use}
+use Rattle.arbiter_server.specs.ServedLines.{refused_keeper}
+use Rattle.line_teller.specs.ToldLines.{refused_memory}
+use Rattle.system_io.specs.declared.host.LockFault.TheVariants as lock
+use Rattle.timeline.specs.Events.{Event, Locked}
+use Rattle.timeline.specs.Outsides.{Outside}
+use Rattle.host_commands.specs.Notes.{MayNote}
+
+-- the file by which a folder of games is locked, and that by which a kept file is
+abbrev pub games_lock : List ℕ → List ℕ
+games_lock folder = folder ++ codes "/lock"
+
+abbrev pub kept_lock : List ℕ → List ℕ
+kept_lock path = path ++ codes ".lock"
+
+abbrev pub held_line : List ℕ → List ℕ
+held_line path = path ++ codes " is locked by another process"
+
+-- the file at a path is locked; or another process holds its lock, which is noted; or it can't be locked; or memory was refused
+pub data LocksFile {T P F K S L : Type 0} (o : Outside T P F K S L) (path : List ℕ) (result : Result K (List ℕ)) (events : List Event) : Type 0 where
+  IsLocked : (held : K) → o.gives_lock path → o.lock_path held ≡ path → result ≡ Ok held → events ≡ Locked path (Ok tt) ∷ [] → LocksFile o path result events
+  InUse : o.bars_lock path lock.Held → (noting : List Event) → MayNote (held_line path) noting → result ≡ Err refused_in_use → events ≡ Locked path (Err lock.Held) ∷ noting → LocksFile o path result events
+  NoLock : o.bars_lock path lock.Failed → result ≡ Err refused_keeper → events ≡ Locked path (Err lock.Failed) ∷ [] → LocksFile o path result events
+  NoRoomToLock : o.bars_lock path lock.OutOfMemory → result ≡ Err refused_memory → events ≡ Locked path (Err lock.OutOfMemory) ∷ [] → LocksFile o path result events
+  NoRoomForPath : result ≡ Err refused_memory → events ≡ [] → LocksFile o path result events

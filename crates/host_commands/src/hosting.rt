@@ -1,0 +1,359 @@
+//! `host`: arbiters of the games of a folder, at one port.
+
+ghost use Rattle.std.specs.Prelude.{◌≡◌, [], string_bytes, IfOk, OnErr};
+ghost use Rattle.std.specs.NonZero.{non_zero_usize_get};
+ghost use Rattle.answer_parts.specs.Printing.{OutputFails, Performs};
+ghost use Rattle.arbiter_server.specs.Games.{common_with};
+ghost use Rattle.arbiter_server.specs.LineLogs.{IsLogOf};
+ghost use Rattle.command_line.specs.Commands.Host.{named};
+ghost use Rattle.game_server.specs.Printing.{KnowsLines, OfGames, form_in};
+ghost use Rattle.game_server.specs.Seats.{AreSeats};
+ghost use Rattle.host_commands.specs.Hosts.{AnswersLogged, BindsAndRuns, Hosts, common_for, HostsBy, LocksAndRuns, NotesAndRuns, RunsGames, RunsKept, RunsStore, tables_line, together_of};
+ghost use Rattle.host_commands.specs.Inside.HostParts.{GoesOnUnlogged, TellsAndRuns, games_served};
+ghost use Rattle.host_commands.specs.Notes.{MayNote};
+ghost use Rattle.judge_core.specs.Tables.{Holding};
+ghost use Rattle.task_files.specs.Sources.{named_by};
+ghost use Rattle.timeline.specs.Outsides.{AddsSome};
+
+use crate::binding::bind;
+use crate::listing::list_games;
+use crate::locking::{IN_GAMES, lock};
+use crate::noting::note_line;
+use crate::ready::{print_out, ready_line};
+use crate::serving::serve_all;
+use crate::store_opening::open_games;
+use crate::tables::{make_manifest, tables_of};
+use answer_parts::{Refusal, print_refusal, print_unread};
+use arbiter_server::{LineLog, ServerConfig};
+use command_line::{HostGames, StoreForm};
+use game_folder::{FolderGames, Games};
+use game_server::{Lines, PortServer, serve};
+use judge_core::Set;
+use std::alloc::{AllocError, Global};
+use std::num::NonZeroUsize;
+use system_io::WriteFault;
+use task_files::{InputPaths, Inputs, read_inputs};
+use timeline::System;
+
+/// What games are hosted from: the words, and of how many files the tables were read.
+#[derive(Drop)]
+struct HostPlan<'h, 'w> {
+    task: &'h HostGames<'w>,
+    read: usize,
+}
+
+/// What a server of games is made of.
+#[derive(Drop)]
+pub(crate) struct GamesServed<'a, G: Drop> {
+    config: ServerConfig<'a>,
+    tables: Set<'a>,
+    games: G,
+}
+
+/// What is noted where the log can't be written and the games go on.
+const LOG_LOST: &str = "the log can't be written: the games go on without it";
+
+/// How many datagrams are answered together, at most.
+fn most_together(form: StoreForm) -> NonZeroUsize
+    ensures { non_zero_usize_get result ≡ together_of form }
+{
+    match form {
+        StoreForm::Sqlite => NonZeroUsize::new(256).unwrap_or(NonZeroUsize::MIN),
+        StoreForm::Files => NonZeroUsize::MIN,
+    }
+}
+
+/// Notes that the log is lost, and answers so many datagrams without it.
+fn go_on_unlogged<'a, S: System, G: Games<S> + Drop>(
+    at: &mut PortServer<'a, G, S::File>,
+    n: u64,
+    port: &mut S::Port,
+    system: &S,
+    timeline: &mut S::Timeline,
+) -> Result<u8, WriteFault>
+    requires seats { AreSeats (S.outside system.now) (G.facts system.now) at.old.server }
+    ensures made { AddsSome (S.outside system.now) timeline.old timeline.new (Performs (GoesOnUnlogged (S.outside system.now) (G.facts system.now) at.old.replies.most n ((S.outside system.now).port port.old).to at.old.server) result) }
+    ensures cause { OnErr result (OutputFails (S.outside system.now)) }
+{
+    system.note(timeline, LOG_LOST);
+    at.silence();
+    serve_all(at, n, port, system, timeline)
+}
+
+/// Serves games at a port, with the lines of a log. Where that can't be written, the games go on without it, if the words say so.
+fn serve_logged<'a, S: System, G: Games<S> + Drop>(
+    at: &mut PortServer<'a, G, S::File>,
+    task: &HostGames<'_>,
+    port: &mut S::Port,
+    system: &S,
+    timeline: &mut S::Timeline,
+) -> Result<u8, WriteFault>
+    requires seats { AreSeats (S.outside system.now) (G.facts system.now) at.old.server }
+    requires lines { form_in at.old.lines ≡ OfGames task.now.log }
+    requires none { KnowsLines at.old.lines [] }
+    ensures made { AddsSome (S.outside system.now) timeline.old timeline.new (Performs (AnswersLogged (S.outside system.now) (G.facts system.now) task.now at.old.replies.most ((S.outside system.now).port port.old).to at.old.server) result) }
+    ensures cause { OnErr result (OutputFails (S.outside system.now)) }
+{
+    match serve(at, system, timeline, port, task.datagrams) {
+        Ok(status) => Ok(status),
+        Err(fault) => {
+            if !task.outlives_log {
+                return Err(fault);
+            }
+            go_on_unlogged(at, task.datagrams, port, system, timeline)
+        }
+    }
+}
+
+/// Makes a server with a log of the form that the words name, and serves the games at a port.
+fn serve_games<'a, S: System, G: Games<S> + Drop>(
+    alloc: Global,
+    task: &HostGames<'_>,
+    served: GamesServed<'a, G>,
+    port: &mut S::Port,
+    system: &S,
+    timeline: &mut S::Timeline,
+) -> Result<u8, WriteFault>
+    ensures made { AddsSome (S.outside system.now) timeline.old timeline.new (Performs (RunsGames (S.outside system.now) (G.facts system.now) task.now (games_served served.entry) port.old) result) }
+    ensures cause { OnErr result (OutputFails (S.outside system.now)) }
+{
+    let GamesServed {
+        config,
+        tables,
+        games,
+    } = served;
+    let Ok(log) = LineLog::new(alloc, task.log) else {
+        return print_refusal(system, timeline, Refusal::Memory);
+    };
+    match PortServer::open(alloc, config, tables, games, Lines::OfGames(log)) {
+        Ok(mut at) => serve_logged(&mut at, task, port, system, timeline),
+        Err(_) => print_refusal(system, timeline, Refusal::Memory),
+    }
+}
+
+/// The line that tells of how many files tables were read. The error comes only where memory is refused.
+fn tables_words(alloc: Global, read: usize) -> Result<String, AllocError>
+    ensures { IfOk result (λ line. string_bytes line ≡ tables_line read) }
+{
+    format!(in alloc; "tables {read}")
+}
+
+/// Notes of how many files tables were read.
+fn note_tables<S: System>(alloc: Global, system: &S, timeline: &mut S::Timeline, read: usize)
+    ensures { AddsSome (S.outside system.now) timeline.old timeline.new (MayNote (tables_line read)) }
+{
+    note_line(system, timeline, tables_words(alloc, read));
+}
+
+/// Notes of how many files tables were read, and serves the games at a port.
+fn note_and_serve<'a, S: System, G: Games<S> + Drop>(
+    alloc: Global,
+    plan: &HostPlan<'_, '_>,
+    served: GamesServed<'a, G>,
+    port: &mut S::Port,
+    system: &S,
+    timeline: &mut S::Timeline,
+) -> Result<u8, WriteFault>
+    ensures made { AddsSome (S.outside system.now) timeline.old timeline.new (Performs (NotesAndRuns (S.outside system.now) (G.facts system.now) plan.now.task.now plan.now.read (games_served served.entry) port.old) result) }
+    ensures cause { OnErr result (OutputFails (S.outside system.now)) }
+{
+    note_tables(alloc, system, timeline, plan.read);
+    serve_games(alloc, plan.task, served, port, system, timeline)
+}
+
+/// Tells the address at which a port listens, and serves the games there when that line has gone out.
+fn tell_and_serve<'a, S: System, G: Games<S> + Drop>(
+    alloc: Global,
+    plan: &HostPlan<'_, '_>,
+    served: GamesServed<'a, G>,
+    port: &mut S::Port,
+    system: &S,
+    timeline: &mut S::Timeline,
+) -> Result<u8, WriteFault>
+    ensures made { AddsSome (S.outside system.now) timeline.old timeline.new (Performs (TellsAndRuns (S.outside system.now) (G.facts system.now) plan.now.task.now plan.now.read (games_served served.entry) port.old) result) }
+    ensures cause { OnErr result (OutputFails (S.outside system.now)) }
+{
+    let line = match ready_line(alloc, system, port) {
+        Ok(line) => line,
+        Err(refusal) => return print_refusal(system, timeline, refusal),
+    };
+    match print_out(system, timeline, line.as_str()) {
+        Ok(()) => note_and_serve(alloc, plan, served, port, system, timeline),
+        Err(fault) => Err(fault),
+    }
+}
+
+/// Binds the address that the words name, and serves games there.
+fn bind_and_serve<'a, S: System, G: Games<S> + Drop>(
+    alloc: Global,
+    plan: &HostPlan<'_, '_>,
+    served: GamesServed<'a, G>,
+    system: &S,
+    timeline: &mut S::Timeline,
+) -> Result<u8, WriteFault>
+    ensures made { AddsSome (S.outside system.now) timeline.old timeline.new (Performs (BindsAndRuns (S.outside system.now) (G.facts system.now) plan.now.task.now plan.now.read (games_served served.entry)) result) }
+    ensures cause { OnErr result (OutputFails (S.outside system.now)) }
+{
+    match bind(alloc, system, timeline, plan.task.bind, plan.task.to) {
+        Ok(mut port) => tell_and_serve(alloc, plan, served, &mut port, system, timeline),
+        Err(refusal) => print_refusal(system, timeline, refusal),
+    }
+}
+
+/// What all games of a server have in common, and how many are open at once.
+#[derive(Drop)]
+struct Common<'a> {
+    config: ServerConfig<'a>,
+    tables: Set<'a>,
+}
+
+/// Opens the store of the folder, and serves the games, whose records are kept there.
+fn store_and_serve<'a, S: System>(
+    alloc: Global,
+    plan: &HostPlan<'_, '_>,
+    common: Common<'a>,
+    system: &S,
+    timeline: &mut S::Timeline,
+) -> Result<u8, WriteFault>
+    ensures made { AddsSome (S.outside system.now) timeline.old timeline.new (Performs (RunsStore (S.outside system.now) plan.now.task.now (common_with common.entry.config common.entry.tables) plan.now.read) result) }
+    ensures cause { OnErr result (OutputFails (S.outside system.now)) }
+{
+    match open_games(alloc, system, timeline, plan.task.games) {
+        Ok(games) => {
+            let Common { config, tables } = common;
+            let served = GamesServed {
+                config,
+                tables,
+                games,
+            };
+            bind_and_serve(alloc, plan, served, system, timeline)
+        }
+        Err(refusal) => print_refusal(system, timeline, refusal),
+    }
+}
+
+/// Serves the games of the folder, whose records are kept as the words say.
+fn keep_and_serve<'a, S: System>(
+    alloc: Global,
+    plan: &HostPlan<'_, '_>,
+    common: Common<'a>,
+    system: &S,
+    timeline: &mut S::Timeline,
+) -> Result<u8, WriteFault>
+    ensures made { AddsSome (S.outside system.now) timeline.old timeline.new (Performs (RunsKept (S.outside system.now) plan.now.task.now plan.now.task.now.store (common_with common.entry.config common.entry.tables) plan.now.read) result) }
+    ensures cause { OnErr result (OutputFails (S.outside system.now)) }
+{
+    match plan.task.store {
+        StoreForm::Files => {
+            let Common { config, tables } = common;
+            let served = GamesServed {
+                config,
+                tables,
+                games: FolderGames {
+                    folder: plan.task.games,
+                },
+            };
+            bind_and_serve(alloc, plan, served, system, timeline)
+        }
+        StoreForm::Sqlite => store_and_serve(alloc, plan, common, system, timeline),
+    }
+}
+
+/// Locks the folder of games, and serves them as long as it is locked.
+fn lock_and_serve<'a, S: System>(
+    alloc: Global,
+    plan: &HostPlan<'_, '_>,
+    common: Common<'a>,
+    system: &S,
+    timeline: &mut S::Timeline,
+) -> Result<u8, WriteFault>
+    ensures made { AddsSome (S.outside system.now) timeline.old timeline.new (Performs (LocksAndRuns (S.outside system.now) plan.now.task.now (common_with common.entry.config common.entry.tables) plan.now.read) result) }
+    ensures cause { OnErr result (OutputFails (S.outside system.now)) }
+{
+    match lock(alloc, system, timeline, plan.task.games, IN_GAMES) {
+        Ok(_held) => keep_and_serve(alloc, plan, common, system, timeline),
+        Err(refusal) => print_refusal(system, timeline, refusal),
+    }
+}
+
+/// How the server is set up, by the manifest of its tables.
+fn config_for<'a>(task: &HostGames<'_>, manifest: &'a [u8]) -> ServerConfig<'a>
+    ensures { (set : Holding) → common_with result set ≡ common_for task.now set manifest.entry.now }
+{
+    ServerConfig {
+        manifest,
+        me: task.me,
+        at_once: task.at_once,
+        together: most_together(task.store),
+    }
+}
+
+/// Serves the games of the folder by what was read: the tables are refused first, and then the folder.
+fn host_by<S: System>(
+    alloc: Global,
+    task: &HostGames<'_>,
+    sources: &Inputs,
+    system: &S,
+    timeline: &mut S::Timeline,
+) -> Result<u8, WriteFault>
+    ensures made { AddsSome (S.outside system.now) timeline.old timeline.new (Performs (HostsBy (S.outside system.now) task.now sources.now) result) }
+    ensures cause { OnErr result (OutputFails (S.outside system.now)) }
+{
+    let tables = match tables_of(alloc, sources, task.cache) {
+        Ok(tables) => tables,
+        Err(refusal) => return print_refusal(system, timeline, refusal),
+    };
+    match list_games(alloc, system, timeline, task.games, task.store) {
+        Ok(()) => {}
+        Err(refusal) => return print_refusal(system, timeline, refusal),
+    }
+    let manifest = match make_manifest(alloc, sources) {
+        Ok(manifest) => manifest,
+        Err(refusal) => return print_refusal(system, timeline, refusal),
+    };
+    let plan = HostPlan {
+        task,
+        read: sources.files().len(),
+    };
+    let common = Common {
+        config: config_for(task, &manifest),
+        tables,
+    };
+    lock_and_serve(alloc, &plan, common, system, timeline)
+}
+
+/// What is read for it.
+fn places_of<'t>(task: &HostGames<'t>) -> InputPaths<'t>
+    ensures { named_by result ≡ named task.now }
+{
+    InputPaths {
+        folder: Some(task.tables),
+        manifest: task.manifest,
+        reads_input: false,
+        kept: None,
+        other_kept: None,
+    }
+}
+
+/// Answers the datagrams of any number of games as the words say, each by the arbiter of its game, and returns the status.
+///
+/// The files of the tables are read first. What is refused is written in one line, in this order: the tables, the folder of games, a store
+/// there that wouldn't be used or is half there, the folder's lock, its store, records that can't go over into that, and the address. Where
+/// memory is refused the line is `refused memory`. Then the line `ready` with the address at which datagrams come goes out, and then a line
+/// for each datagram, as `game_server::serve` has it. It is noted of how many files tables were read, why a store isn't opened, which files
+/// hold no record of their games, and where a log is lost that the games outlive. The error comes only where the output may fail.
+pub fn host_games<S: System>(
+    alloc: Global,
+    task: &HostGames<'_>,
+    system: &S,
+    timeline: &mut S::Timeline,
+) -> Result<u8, WriteFault>
+    ensures made { AddsSome (S.outside system.now) timeline.old timeline.new (Performs (Hosts (S.outside system.now) task.now) result) }
+    ensures cause { OnErr result (OutputFails (S.outside system.now)) }
+{
+    let places = places_of(task);
+    match read_inputs(alloc, system, timeline, &places) {
+        Ok(sources) => host_by(alloc, task, &sources, system, timeline),
+        Err(fault) => print_unread(system, timeline, fault, 1),
+    }
+}

@@ -1,0 +1,42 @@
+//! The commands `listen` and `host` over one timeline: arbiters that answer the datagrams that come to a port.
+//!
+//! Each does all that it does outside but the end of the output: it reads what its words name, locks what it keeps, binds its port, tells its
+//! address and runs a server of games (`serve` of game_server), of one game or of many. The contract has every event, in order, and says
+//! that there is no other one. Where the output fails, that is a front of them.
+//!
+//! Inside: `noting` (lines that are noted), `binding` (a port at the addresses of two words, also for `send`), `locking`, `ready` (the line
+//! that tells an address), `listening`; of `host` `listing` (its folder), `arriving` (the file of a record that goes over), `importing`
+//! (all of them), `store_opening`, `hosting`.
+//!
+//! Definitions, in reading order: `Notes`, `Binds`, `Locks`, `Ready`, `ServerRuns` (`AnswersAll`), `Listens` (`Listens`); `Listings`,
+//! `Imports` (`ImportsRecords`), `Hosts` (`Hosts`).
+//!
+//! - CLAIM: `listen`, clause `made`: what the words name is read first; then are refused in this order the text of the start, the tables, the
+//!   address, the lock of the file in which the record is kept, and that file or what stands there. Where that is wanted, the line
+//!   `ready ADDR` has gone out before the lock is taken. The game is opened before the first datagram is awaited, and its record put where
+//!   there was none; with `--fetch` its request for moves is sent then.
+//! - CLAIM: `host_games`, clause `made`: what the words name is read first; then are refused in this order the tables, the folder of the
+//!   games, its lock, its store and the records that go over into it, and the address. Each record of a file that the store hasn't is put
+//!   there, all at once, before the port is bound. The line `ready ADDR` has gone out before a datagram is awaited.
+//! - CLAIM: `listen`, `host_games`, clauses `made`: what follows is a run of `serve` of game_server, over the game's file, the folder's files
+//!   or its store. Of `host`, where a line can't be written and the words say so, it is noted and the run goes on without lines.
+//! - CLAIM: `listen`, `host_games`, clauses `cause`: an error comes only where a write might be refused, or what was written couldn't go out.
+#![tactic(auto)]
+
+mod arriving;
+mod binding;
+mod hosting;
+mod importing;
+mod listening;
+mod listing;
+mod locking;
+mod noting;
+mod ready;
+mod serving;
+mod store_opening;
+mod tables;
+
+pub use binding::bind;
+pub use hosting::host_games;
+pub use listening::listen;
+pub use noting::note_line;

@@ -1,0 +1,309 @@
+//! `listen`: an arbiter of one game, at a port.
+
+ghost use Rattle.std.specs.Prelude.{◌≡◌, OnErr};
+ghost use Rattle.answer_parts.specs.Lines.{refusal_words};
+ghost use Rattle.answer_parts.specs.Printing.{OutputFails, Performs};
+ghost use Rattle.command_line.specs.Commands.Listen.{named};
+ghost use Rattle.game_server.specs.Seats.{AreSeats};
+ghost use Rattle.game_server.specs.Sending.{address_of};
+ghost use Rattle.host_commands.specs.Inside.Parts.{ListensFrom, TellsAndRuns, served_one};
+ghost use Rattle.host_commands.specs.Listens.{AsksIf, BindsAndRuns, Listens, ListensBy, LocksAndRuns, OpensAndAnswers, ReadyIf, RunsOne, game_of, served_of, unopened_refusal};
+ghost use Rattle.task_files.specs.Sources.{named_by};
+ghost use Rattle.timeline.specs.Outsides.{AddsSome, HeardNothing};
+
+use crate::binding::bind;
+use crate::locking::{BESIDE_KEPT, lock};
+use crate::ready::{print_out, ready_line};
+use crate::serving::serve_all;
+use crate::tables::{make_manifest, tables_of};
+use answer_parts::{Refusal, print_refusal, print_unread};
+use arbiter_core::name_of;
+use arbiter_server::{OpenGameError, ServerConfig};
+use board_core::Position;
+use command_line::{CacheSize, Listen};
+use fen_text::read;
+use game_folder::{Games, OneGame};
+use game_server::{Lines, PortServer, ask, open_game};
+use judge_core::Set;
+use move_msg::Stamp;
+use std::alloc::Global;
+use std::num::NonZeroUsize;
+use system_io::WriteFault;
+use task_files::{InputPaths, Inputs, read_inputs};
+use timeline::System;
+
+/// What a server of one game is made of.
+#[derive(Drop)]
+pub(crate) struct OneServed<'a, G: Drop> {
+    config: ServerConfig<'a>,
+    tables: Set<'a>,
+    games: G,
+    stamp: Stamp,
+}
+
+/// Why a game isn't opened, as it is refused.
+fn unopened_refusal(why: OpenGameError) -> Refusal
+    ensures { refusal_words result ≡ unopened_refusal why }
+{
+    match why {
+        OpenGameError::OutOfMemory => Refusal::Memory,
+        OpenGameError::NotOpen
+        | OpenGameError::NoGame
+        | OpenGameError::OtherGame
+        | OpenGameError::BadGame(_)
+        | OpenGameError::Keeper => Refusal::Keeper,
+    }
+}
+
+/// Sends the request for moves of the game, where that is wanted and it has one.
+fn ask_if<'a, S: System, G: Games<S> + Drop>(
+    at: &PortServer<'a, G, S::File>,
+    is_wanted: bool,
+    stamp: Stamp,
+    port: &mut S::Port,
+    system: &S,
+    timeline: &mut S::Timeline,
+)
+    ensures same { HeardNothing ((S.outside system.now).port port.old) ((S.outside system.now).port port.new) }
+    ensures made { AddsSome (S.outside system.now) timeline.old timeline.new (AsksIf is_wanted (address_of ((S.outside system.now).port port.old)) at.now.server stamp) }
+{
+    if is_wanted {
+        ask(at, system, timeline, port, stamp);
+    }
+}
+
+/// Opens the game and answers the datagrams of a port, after its request for moves, where that is wanted. Where the game isn't opened the
+/// line is `refused keeper`, or `refused memory`.
+fn open_and_serve<'a, S: System, G: Games<S> + Drop>(
+    at: &mut PortServer<'a, G, S::File>,
+    task: &Listen<'_>,
+    stamp: Stamp,
+    port: &mut S::Port,
+    system: &S,
+    timeline: &mut S::Timeline,
+) -> Result<u8, WriteFault>
+    requires seats { AreSeats (S.outside system.now) (G.facts system.now) at.old.server }
+    requires lines { at.old.lines ≡ Lines.OfOne stamp }
+    ensures made { AddsSome (S.outside system.now) timeline.old timeline.new (Performs (OpensAndAnswers (S.outside system.now) (G.facts system.now) task.now at.old.replies.most stamp port.old at.old.server) result) }
+    ensures cause { OnErr result (OutputFails (S.outside system.now)) }
+{
+    match open_game(at, system, timeline, stamp) {
+        Ok(()) => {
+            ask_if(at, task.fetch, stamp, port, system, timeline);
+            serve_all(at, task.datagrams, port, system, timeline)
+        }
+        Err(why) => print_refusal(system, timeline, unopened_refusal(why)),
+    }
+}
+
+/// Makes a server, and serves the game at a port.
+fn serve_one<'a, S: System, G: Games<S> + Drop>(
+    alloc: Global,
+    task: &Listen<'_>,
+    served: OneServed<'a, G>,
+    port: &mut S::Port,
+    system: &S,
+    timeline: &mut S::Timeline,
+) -> Result<u8, WriteFault>
+    ensures made { AddsSome (S.outside system.now) timeline.old timeline.new (Performs (RunsOne (S.outside system.now) (G.facts system.now) task.now (served_one served.entry) port.old) result) }
+    ensures cause { OnErr result (OutputFails (S.outside system.now)) }
+{
+    let OneServed {
+        config,
+        tables,
+        games,
+        stamp,
+    } = served;
+    match PortServer::open(alloc, config, tables, games, Lines::OfOne(stamp)) {
+        Ok(mut at) => open_and_serve(&mut at, task, stamp, port, system, timeline),
+        Err(_) => print_refusal(system, timeline, Refusal::Memory),
+    }
+}
+
+/// Locks the file in which the record is kept, and serves the game as long as it is locked.
+fn lock_and_serve<'a, S: System, G: Games<S> + Drop>(
+    alloc: Global,
+    task: &Listen<'_>,
+    served: OneServed<'a, G>,
+    port: &mut S::Port,
+    system: &S,
+    timeline: &mut S::Timeline,
+) -> Result<u8, WriteFault>
+    ensures made { AddsSome (S.outside system.now) timeline.old timeline.new (Performs (LocksAndRuns (S.outside system.now) (G.facts system.now) task.now (served_one served.entry) port.old) result) }
+    ensures cause { OnErr result (OutputFails (S.outside system.now)) }
+{
+    match lock(alloc, system, timeline, task.kept, BESIDE_KEPT) {
+        Ok(_held) => serve_one(alloc, task, served, port, system, timeline),
+        Err(refusal) => print_refusal(system, timeline, refusal),
+    }
+}
+
+/// Tells the address at which datagrams come, and serves the game when that line has gone out.
+fn tell_and_serve<'a, S: System, G: Games<S> + Drop>(
+    alloc: Global,
+    task: &Listen<'_>,
+    served: OneServed<'a, G>,
+    port: &mut S::Port,
+    system: &S,
+    timeline: &mut S::Timeline,
+) -> Result<u8, WriteFault>
+    ensures made { AddsSome (S.outside system.now) timeline.old timeline.new (Performs (TellsAndRuns (S.outside system.now) (G.facts system.now) task.now (served_one served.entry) port.old) result) }
+    ensures cause { OnErr result (OutputFails (S.outside system.now)) }
+{
+    let line = match ready_line(alloc, system, port) {
+        Ok(line) => line,
+        Err(refusal) => return print_refusal(system, timeline, refusal),
+    };
+    match print_out(system, timeline, line.as_str()) {
+        Ok(()) => lock_and_serve(alloc, task, served, port, system, timeline),
+        Err(fault) => Err(fault),
+    }
+}
+
+/// Serves the game at a port; before that its address is told, where that is wanted.
+fn start_at<'a, S: System, G: Games<S> + Drop>(
+    alloc: Global,
+    task: &Listen<'_>,
+    served: OneServed<'a, G>,
+    port: &mut S::Port,
+    system: &S,
+    timeline: &mut S::Timeline,
+) -> Result<u8, WriteFault>
+    ensures made { AddsSome (S.outside system.now) timeline.old timeline.new (Performs (ReadyIf (S.outside system.now) (G.facts system.now) task.now (served_one served.entry) task.now.ready port.old) result) }
+    ensures cause { OnErr result (OutputFails (S.outside system.now)) }
+{
+    if task.ready {
+        tell_and_serve(alloc, task, served, port, system, timeline)
+    } else {
+        lock_and_serve(alloc, task, served, port, system, timeline)
+    }
+}
+
+/// Binds the address that the words name, and serves the game there.
+fn bind_and_serve<'a, S: System, G: Games<S> + Drop>(
+    alloc: Global,
+    task: &Listen<'_>,
+    served: OneServed<'a, G>,
+    system: &S,
+    timeline: &mut S::Timeline,
+) -> Result<u8, WriteFault>
+    ensures made { AddsSome (S.outside system.now) timeline.old timeline.new (Performs (BindsAndRuns (S.outside system.now) (G.facts system.now) task.now (served_one served.entry)) result) }
+    ensures cause { OnErr result (OutputFails (S.outside system.now)) }
+{
+    match bind(alloc, system, timeline, task.bind, task.to) {
+        Ok(mut port) => start_at(alloc, task, served, &mut port, system, timeline),
+        Err(refusal) => print_refusal(system, timeline, refusal),
+    }
+}
+
+/// The game that the words tell from this start, by tables with this manifest.
+fn one_game<'t>(task: &Listen<'t>, start: Position, manifest: &[u8]) -> OneGame<'t>
+    ensures { result ≡ game_of task.now start manifest.now }
+{
+    OneGame::new(
+        task.name.stamp(&start, manifest, task.delay),
+        name_of(task.name.as_bytes()),
+        start,
+        task.delay,
+        task.kept,
+    )
+}
+
+/// What is served of the game from this start, by these tables.
+fn served_from<'a, 't>(
+    task: &Listen<'t>,
+    start: Position,
+    tables: Set<'a>,
+    manifest: &'a [u8],
+) -> OneServed<'a, OneGame<'t>>
+    ensures { served_one result ≡ served_of task.now start tables.entry manifest.now }
+{
+    OneServed {
+        config: ServerConfig {
+            manifest,
+            me: task.me,
+            at_once: NonZeroUsize::MIN,
+            together: NonZeroUsize::MIN,
+        },
+        tables,
+        games: one_game(task, start, manifest),
+        stamp: task.name.stamp(&start, manifest, task.delay),
+    }
+}
+
+/// Serves the game from this start by the tables that were read, which are refused first.
+fn listen_from<S: System>(
+    alloc: Global,
+    task: &Listen<'_>,
+    sources: &Inputs,
+    start: Position,
+    system: &S,
+    timeline: &mut S::Timeline,
+) -> Result<u8, WriteFault>
+    ensures made { AddsSome (S.outside system.now) timeline.old timeline.new (Performs (ListensFrom (S.outside system.now) task.now sources.now start) result) }
+    ensures cause { OnErr result (OutputFails (S.outside system.now)) }
+{
+    let tables = match tables_of(alloc, sources, CacheSize::usual()) {
+        Ok(tables) => tables,
+        Err(refusal) => return print_refusal(system, timeline, refusal),
+    };
+    let manifest = match make_manifest(alloc, sources) {
+        Ok(manifest) => manifest,
+        Err(refusal) => return print_refusal(system, timeline, refusal),
+    };
+    let served = served_from(task, start, tables, &manifest);
+    bind_and_serve(alloc, task, served, system, timeline)
+}
+
+/// Serves the game that the words tell, by what was read.
+fn listen_by<S: System>(
+    alloc: Global,
+    task: &Listen<'_>,
+    sources: &Inputs,
+    system: &S,
+    timeline: &mut S::Timeline,
+) -> Result<u8, WriteFault>
+    ensures made { AddsSome (S.outside system.now) timeline.old timeline.new (Performs (ListensBy (S.outside system.now) task.now sources.now) result) }
+    ensures cause { OnErr result (OutputFails (S.outside system.now)) }
+{
+    match read(task.start.as_bytes()) {
+        Ok(start) => listen_from(alloc, task, sources, start, system, timeline),
+        Err(fault) => print_refusal(system, timeline, Refusal::Fen(fault)),
+    }
+}
+
+/// What is read for it.
+fn places_of<'t>(task: &Listen<'t>) -> InputPaths<'t>
+    ensures { named_by result ≡ named task.now }
+{
+    InputPaths {
+        folder: Some(task.tables),
+        manifest: None,
+        reads_input: false,
+        kept: None,
+        other_kept: None,
+    }
+}
+
+/// Opens an arbiter as its words say, answers datagrams, and returns the status.
+///
+/// The files of its tables are read first. Where that is wanted, the first line is `ready` and the address at which datagrams come, when
+/// that is bound. What is refused is written in one line, in this order: the text of its start, the tables, the address, the lock of the
+/// file in which the record is kept, and that file or what stands there. Where memory is refused the line is `refused memory`. The game is
+/// opened before the first datagram is awaited, and its request for moves is sent then, where that is wanted. Then a line is written for
+/// each datagram, as `game_server::serve` has it. The error comes only where the output may fail.
+pub fn listen<S: System>(
+    alloc: Global,
+    task: &Listen<'_>,
+    system: &S,
+    timeline: &mut S::Timeline,
+) -> Result<u8, WriteFault>
+    ensures made { AddsSome (S.outside system.now) timeline.old timeline.new (Performs (Listens (S.outside system.now) task.now) result) }
+    ensures cause { OnErr result (OutputFails (S.outside system.now)) }
+{
+    let places = places_of(task);
+    match read_inputs(alloc, system, timeline, &places) {
+        Ok(sources) => listen_by(alloc, task, &sources, system, timeline),
+        Err(fault) => print_unread(system, timeline, fault, 1),
+    }
+}
