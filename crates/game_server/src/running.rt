@@ -164,6 +164,8 @@ pub fn serve<'a, S: System, G: Games<S> + Drop>(
     requires seats { AreSeats (S.outside system.now) (G.facts system.now) at.old.server }
     requires none { KnowsLines at.old.lines [] }
     ensures run { Serves (S.outside system.now) (G.facts system.now) at.old.replies.most (form_in at.old.lines) [] n ((S.outside system.now).port port.old).to at.old.server at.new.server timeline.old timeline.new result }
+    ensures same { SendsToSame ((S.outside system.now).port port.old) ((S.outside system.now).port port.new) }
+    ensures most { at.new.replies.most ≡ at.old.replies.most }
     ensures earned { EarnsFrom (S.outside system.now) (G.facts system.now) at.old.server at.new.server timeline.old timeline.new }
     ensures seats { AreSeats (S.outside system.now) (G.facts system.now) at.new.server }
     ensures cause { OnErr result (OutputFails (S.outside system.now)) }

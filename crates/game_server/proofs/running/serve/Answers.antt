@@ -71,3 +71,21 @@ pub returns-clause-earned : goal.returns-clause-earned
 returns-clause-earned g c =
     run_earned (g.S.System.outside c.args.system.now) (g.G.Games.facts c.args.system.now) ((g.S.System.outside c.args.system.now).port c.args.port.now).to c.args.at.now.replies.most (form_in c.args.at.now.lines) [] c.args.n c.args.at.now.server c.loop-left.at.server c.args.timeline.now c.loop-left.timeline (Ok 0)
     (returns-clause-run g c)
+
+pub returns-in-Ok-Stops-clause-same : goal.returns-in-Ok-Stops-clause-same
+returns-in-Ok-Stops-clause-same g c = same_then _ _ _ c.loop-left.invariant.same c.round.ensures.same
+
+pub returns-in-Ok-Stops-clause-most : goal.returns-in-Ok-Stops-clause-most
+returns-in-Ok-Stops-clause-most g c = c.round.ensures.most ∙ c.loop-left.invariant.most
+
+pub returns-in-Err-clause-same : goal.returns-in-Err-clause-same
+returns-in-Err-clause-same g c = same_then _ _ _ c.loop-left.invariant.same c.round.ensures.same
+
+pub returns-in-Err-clause-most : goal.returns-in-Err-clause-most
+returns-in-Err-clause-most g c = c.round.ensures.most ∙ c.loop-left.invariant.most
+
+pub returns-clause-same : goal.returns-clause-same
+returns-clause-same g c = c.loop-left.invariant.same
+
+pub returns-clause-most : goal.returns-clause-most
+returns-clause-most g c = c.loop-left.invariant.most
