@@ -5,7 +5,6 @@
 //!
 //! - `opening_tests`: keepers that fail, and delays
 //! - `fetching_tests`: what is passed on of the longest game
-//! - `server_tests`: a server of games over a system in memory, and the order of all that happens
 //! - `serving_tests`: an arbiter in service, over a port in memory, and outputs that fail
 //! - `stopping_tests`: random runs that are stopped
 //! - `hosting_tests`: a server of three games that is stopped

@@ -8,7 +8,6 @@ mod opening_tests;
 mod playing;
 mod positions;
 mod seeded_world_tests;
-mod server_tests;
 mod serving_tests;
 mod stopping_tests;
 mod udp_tests;
