@@ -19,8 +19,10 @@
 //!   games, its lock, its store and the records that go over into it, and the address. Each record of a file that the store hasn't is put
 //!   there, all at once, before the port is bound. The line `ready ADDR` has gone out before a datagram is awaited.
 //! - CLAIM: `listen`, `host_games`, clauses `made`: what follows is a run of `serve` of game_server, over the game's file, the folder's files
-//!   or its store. Of `host`, where a line can't be written and the words say so, it is noted and the run goes on without lines.
+//!   or its store. Of `host` a run that goes on without lines, behind one that can't be written, is one whose words ask for that.
 //! - CLAIM: `listen`, `host_games`, clauses `cause`: an error comes only where a write might be refused, or what was written couldn't go out.
+//!
+//! Not said: that a run whose log is lost goes on where its words ask for that, since what happened by then is a front of it.
 #![tactic(auto)]
 
 mod arriving;
