@@ -138,10 +138,14 @@ commits_noted o old new told events path folder left c = record {
     quiet = committing_sends_nothing (o.store_path old.store) old told events c;
     place = ap (λ (f : List ℕ). record { folder = f; store_path = o.store_path new.store }) folder ∙ ap (λ (p : List ℕ). record { folder = old.folder; store_path = p }) path;
   };
-  done = (told, refl, c);
+  done = by told c;
   kept = kept_by_commit (o.store_path old.store) old told events c;
   left = left;
 }
+  where
+    by : (r : Result (Unit {0}) Uncommitted) → CommitsNoted (o.store_path old.store) old r events → CommitsNoted (o.store_path old.store) old (without_value r) events
+    by (Ok x) h = h
+    by (Err why) h = h
 
 -- ---- how a record is taken
 

@@ -1,5 +1,5 @@
 -- Games whose files are in a folder, each with a file of its record beside it (this project's own).
-use Rattle.std.specs.Prelude.{◌≡◌, ◌≤◌, ◌⊎◌, ℕ, true, List, [], ◌∷◌, Result, Ok, Err, IfOk, length}
+use Rattle.std.specs.Prelude.{◌≡◌, ◌≤◌, ◌⊎◌, ℕ, List, [], ◌∷◌, Result, Ok, Err, IfOk, length}
 use Rattle.arbiter_server.specs.GameFiles.{IsFirstGameFault, SpellsGame, game_as_told, line_number}
 use Rattle.arbiter_server.specs.GameFolders.{game_path, kept_path, most_game_bytes}
 use Rattle.arbiter_server.specs.declared.fault.OpenGameError.{OpenGameError}
@@ -47,5 +47,5 @@ folder_games_facts = record {
   finds = FindsInFolder;
   takes = λ g stamp. TakesFromFile (kept_path g.folder.now stamp);
   keeps = λ folder stamp bytes done events. events ≡ puts_in_file (kept_path folder stamp) bytes done;
-  commits = λ g done events. (done ≡ true) × (events ≡ []);
+  commits = λ g told events. (told ≡ Ok tt) × (events ≡ []);
 }

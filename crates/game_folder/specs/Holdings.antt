@@ -26,8 +26,8 @@ pub record GamesFacts (G : Type 0) : Type 1 where
   pub takes : G → List ℕ → Result (Option (List ℕ)) OpenGameError → List Event → Type 0
   -- by these bytes are kept of it, or that fails
   pub keeps : Place → List ℕ → List ℕ → Bool → List Event → Type 0
-  -- by these what was noted is committed, or that fails
-  pub commits : G → Bool → List Event → Type 0
+  -- by these what was noted is committed, or isn't for this reason
+  pub commits : G → Result (Unit {0}) Uncommitted → List Event → Type 0
 
 -- no datagram is sent
 abbrev pub SendsNothing : List Event → Type 0
@@ -37,6 +37,11 @@ SendsNothing events = AllByRecursion (λ e. (to : SocketAddr) (bytes : List ℕ)
 abbrev pub IsKeptIn : {T P F K S L : Type 0} → Outside T P F K S L → KeptAt → Option F → Type 0
 IsKeptIn o at (Some file) = at ≡ InFile (o.path file)
 IsKeptIn o at None = (path : List ℕ) × (at ≡ InStore path)
+
+-- what a call gave, without its value
+abbrev pub without_value : {A E : Type 0} → Result A E → Result (Unit {0}) E
+without_value (Ok a) = Ok tt
+without_value (Err e) = Err e
 
 -- what is kept of a game, or why that can't be had
 abbrev pub kept_of : {F : Type 0} → Result (KeptGame F) OpenGameError → Result (Option (List ℕ)) OpenGameError
@@ -93,6 +98,6 @@ module _ {G : Type 0} (facts : GamesFacts G) where
   -- what was noted is committed, or that fails; then it stays noted, and nothing is announced
   pub record CommitsGames {A : Type 0} (old new : G) (result : Result A Uncommitted) (events : List Event) : Type 0 where
     pub still : IsQuiet old new events
-    pub done : facts.commits old (is_done result) events
+    pub done : facts.commits old (without_value result) events
     pub kept : OnOk result ((stamp bytes : List ℕ) → facts.noted old stamp bytes → WasKept (facts.places (facts.place old) stamp) events stamp bytes)
     pub left : OnErr result (StaysNoted old new)

@@ -1,8 +1,9 @@
 -- One game, whose record is kept in a file (this project's own).
-use Rattle.std.specs.Prelude.{◌≡◌, ◌≢◌, ℕ, Bool, true, not, List, [], Result, Ok, Err}
+use Rattle.std.specs.Prelude.{◌≡◌, ◌≢◌, ℕ, Bool, true, cond, List, [], Result, Ok, Err}
 use Rattle.arbiter_server.specs.GameFiles.{GameContents, game_as_told}
 use Rattle.arbiter_server.specs.declared.fault.OpenGameError.{OpenGameError}
 use Rattle.arbiter_server.specs.declared.fault.OpenGameError.TheVariants as unopened
+use Rattle.arbiter_server.specs.declared.fault.Uncommitted.TheVariants as uncommitted
 use Rattle.arbiter_server.specs.declared.games.GameConfig.{GameConfig}
 use Rattle.game_folder.specs.Holdings.{GamesFacts}
 use Rattle.game_folder.specs.Places.{one_file}
@@ -34,5 +35,5 @@ one_game_facts = record {
   finds = λ at stamp result events. FindsByStamp at stamp result × (events ≡ []);
   takes = λ g stamp. TakesFromFile g.at.path;
   keeps = λ at stamp bytes done events. events ≡ puts_in_file at.path bytes done;
-  commits = λ g done events. (done ≡ not g.is_lost) × (events ≡ []);
+  commits = λ g told events. (told ≡ cond g.is_lost (Err uncommitted.StoreLost) (Ok tt)) × (events ≡ []);
 }

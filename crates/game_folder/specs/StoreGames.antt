@@ -9,7 +9,7 @@ use Rattle.move_msg.specs.Records.{SpellsRecord}
 use Rattle.move_msg.specs.declared.record_bytes.Record.{Record}
 use Rattle.system_io.specs.Records.{AreSame, IsSettled, StoredRecord, records_of, with_all}
 use Rattle.system_io.specs.declared.record_store.Entry.{Entry}
-use Rattle.timeline.specs.Events.{Committed, Event, Noted, RecordSought, is_done, stamped}
+use Rattle.timeline.specs.Events.{Committed, Event, Noted, RecordSought, stamped}
 use Rattle.timeline.specs.Outsides.{Outside}
 use Rattle.game_folder.specs.FolderGames.{FindsInFolder}
 use Rattle.game_folder.specs.Holdings.{GamesFacts, kept_of}
@@ -146,5 +146,5 @@ store_games_facts o = record {
   finds = λ at. FindsInFolder at.folder;
   takes = λ g. TakesFromStore (o.store_path g.store) g;
   keeps = λ at stamp bytes done events. events ≡ [];
-  commits = λ g done events. (told : Result (Unit {0}) Uncommitted) × (done ≡ is_done told) × CommitsNoted (o.store_path g.store) g told events;
+  commits = λ g. CommitsNoted (o.store_path g.store) g;
 }

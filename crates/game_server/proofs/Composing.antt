@@ -17,28 +17,28 @@ use Rattle.game_folder.specs.Drafts.{DraftView}
 use Rattle.game_server.specs.Fates.{IsFound, IsOther, NotFound, OpensFor, OpensNone, OpensSeat, TakesAndOpens, TakesNone, TakesOne}
 use Rattle.game_folder.specs.Holdings.{GamesFacts, IsQuiet, StaysNoted, TakesGame}
 use Rattle.game_server.specs.Fates.{found_draft}
-use Rattle.game_server.specs.Seats.{IsKnownSeat, IsSeat, SameSeats, common}
+use Rattle.game_server.specs.Seats.{IsKnownSeat, IsSeat, SameCommon, common_in}
 use Rattle.game_server.specs.Inside.Seating.{IsKnownThen, KnowsSeat, LooksUp, OpensForMessage, OpensOverKept, OpensTaken, seated_as}
 use Rattle.game_folder.specs.declared.games.KeptGame.{KeptGame}
 use Rattle.game_server.specs.declared.seat.Seat.{Seat}
-use Rattle.game_server.specs.declared.server.Server.{Server}
+use Rattle.game_server.specs.declared.server.Shared.{Shared}
 use Rattle.game_server.proofs.Knowing.{known_after, quiet_join}
 use Rattle.game_server.proofs.SeatLaws.{clean_draft, noted_then, quiet_nothing, quiet_then}
 
--- a server with games in another state
-abbrev pub with_games : {G F : Type 0} → Server G F → G → Server G F
-with_games server g = record server { games = g }
+-- what all share, with games in another state
+abbrev pub with_games : {G : Type 0} → Shared G → G → Shared G
+with_games shared g = record shared { games = g }
 
-module _ {T P F K S L G : Type 0} (o : Outside T P F K S L) (facts : GamesFacts G) (old new : Server G F) (g : G) (game : GameConfig) (result : Result (Seat F) OpenGameError) where
+module _ {T P F K S L G : Type 0} (o : Outside T P F K S L) (facts : GamesFacts G) (old new : Shared G) (g : G) (game : GameConfig) (result : Result (Seat F) OpenGameError) where
   -- over a record that was taken
   taken_over : (kept : KeptGame F) (first rest : List Event) → TakesGame facts o old.games g kept.stamp (Ok kept) first → OpensOverKept o facts (with_games old g) new kept game result rest → OpensTaken o facts old new kept.stamp game result (first ++ rest)
   taken_over kept first rest takes over = record {
-    same = record { config = over.same.config; tables = over.same.tables; seats = over.same.seats };
+    same = record { config = over.same.config; tables = over.same.tables };
     still = quiet_then facts old.games g new.games first rest takes.still over.still;
     noted = noted_then facts old.games g new.games takes.noted over.noted;
     opens = TakesOne first rest kept.draft.kept takes.taken
-        (subst (λ (d : DraftView). OpensSeat facts (facts.place old.games) kept.stamp (setup_of (common old) game.name.items game.start game.delay) d rest (seated_as old.tables result)) (clean_draft kept.draft takes.ok.clean)
-        (subst (λ (p : facts.Place). OpensSeat facts p kept.stamp (setup_of (common old) game.name.items game.start game.delay) kept.draft rest (seated_as old.tables result)) takes.still.place over.opens)) refl;
+        (subst (λ (d : DraftView). OpensSeat facts (facts.place old.games) kept.stamp (setup_of (common_in old) game.name.items game.start game.delay) d rest (seated_as old.tables result)) (clean_draft kept.draft takes.ok.clean)
+        (subst (λ (p : facts.Place). OpensSeat facts p kept.stamp (setup_of (common_in old) game.name.items game.start game.delay) kept.draft rest (seated_as old.tables result)) takes.still.place over.opens)) refl;
     ok = over.ok;
     knows = IfOk-weaker result _ _ (λ seat knows. knows first takes.ok.known) over.knows;
   }
@@ -55,13 +55,13 @@ module _ {T P F K S L G : Type 0} (o : Outside T P F K S L) (facts : GamesFacts 
   pub takes_none : (stamp : List ℕ) (why : OpenGameError) (a b : T) → new ≡ with_games old g → result ≡ Err why → AddsSome o a b (TakesGame facts o old.games g stamp (Err why)) → AddsSome o a b (OpensTaken o facts old new stamp game result)
   takes_none stamp why a b same is p =
       subst (λ (r : Result (Seat F) OpenGameError). AddsSome o a b (OpensTaken o facts old new stamp game r)) (sym is)
-      (subst (λ (n : Server G F). AddsSome o a b (OpensTaken o facts old n stamp game (Err why))) (sym same) (
+      (subst (λ (n : Shared G). AddsSome o a b (OpensTaken o facts old n stamp game (Err why))) (sym same) (
         p.0,
         p.1,
-        record { same = record { config = refl; tables = refl; seats = refl }; still = p.2.still; noted = p.2.noted; opens = TakesNone why p.2.taken refl; ok = tt; knows = tt },
+        record { same = record { config = refl; tables = refl }; still = p.2.still; noted = p.2.noted; opens = TakesNone why p.2.taken refl; ok = tt; knows = tt },
       ))
 
-module _ {T P F K S L G : Type 0} (o : Outside T P F K S L) (facts : GamesFacts G) (old new : Server G F) (m : Message) (result : Result (Seat F) OpenGameError) where
+module _ {T P F K S L G : Type 0} (o : Outside T P F K S L) (facts : GamesFacts G) (old new : Shared G) (m : Message) (result : Result (Seat F) OpenGameError) where
   pub found_then : (game : GameConfig) (a b c : T) → opens_game m ≡ true → AddsSome o a b (LooksUp facts old.games old.config.manifest.now (stamp_in m) (Ok game)) → AddsSome o b c (OpensTaken o facts old new (stamp_in m) game result) → AddsSome o a c (OpensForMessage o facts old new m result)
   found_then game a b c opens p q = (
     p.0 ++ q.0,
@@ -82,11 +82,11 @@ module _ {T P F K S L G : Type 0} (o : Outside T P F K S L) (facts : GamesFacts 
   pub found_none : (why : OpenGameError) (a b : T) → new ≡ old → result ≡ Err why → opens_game m ≡ true → AddsSome o a b (LooksUp facts old.games old.config.manifest.now (stamp_in m) (Err why)) → AddsSome o a b (OpensForMessage o facts old new m result)
   found_none why a b same is opens p =
       subst (λ (r : Result (Seat F) OpenGameError). AddsSome o a b (OpensForMessage o facts old new m r)) (sym is)
-      (subst (λ (n : Server G F). AddsSome o a b (OpensForMessage o facts old n m (Err why))) (sym same) (
+      (subst (λ (n : Shared G). AddsSome o a b (OpensForMessage o facts old n m (Err why))) (sym same) (
         p.0,
         p.1,
         record {
-          same = record { config = refl; tables = refl; seats = refl };
+          same = record { config = refl; tables = refl };
           still = record { quiet = p.2.quiet; place = refl };
           noted = λ stamp bytes n. n;
           opens = elim p.2.is [
@@ -101,8 +101,8 @@ module _ {T P F K S L G : Type 0} (o : Outside T P F K S L) (facts : GamesFacts 
   pub opens_none : (a : T) → new ≡ old → result ≡ Err unopened.NotOpen → opens_game m ≡ false → AddsSome o a a (OpensForMessage o facts old new m result)
   opens_none a same is none =
       subst (λ (r : Result (Seat F) OpenGameError). AddsSome o a a (OpensForMessage o facts old new m r)) (sym is)
-      (subst (λ (n : Server G F). AddsSome o a a (OpensForMessage o facts old n m (Err unopened.NotOpen))) (sym same) (
+      (subst (λ (n : Shared G). AddsSome o a a (OpensForMessage o facts old n m (Err unopened.NotOpen))) (sym same) (
         [],
         adds_none o a,
-        record { same = record { config = refl; tables = refl; seats = refl }; still = quiet_nothing facts old.games; noted = λ stamp bytes n. n; opens = OpensNone none refl refl; ok = tt; knows = tt },
+        record { same = record { config = refl; tables = refl }; still = quiet_nothing facts old.games; noted = λ stamp bytes n. n; opens = OpensNone none refl refl; ok = tt; knows = tt },
       ))

@@ -81,7 +81,7 @@ module _ {G F : Type 0} (facts : GamesFacts G) where
   seat_known_on g before more stamp (Some seat) p = record { bytes = p.bytes; kept = p.kept; is = known_on facts g g refl stamp p.bytes (λ s b n. n) before more p.is }
 
   pub are_known_on : (server : Server G F) (before more : List Event) → AreKnown facts server before → AreKnown facts server (before ++ more)
-  are_known_on server before more p = λ stamp. seat_known_on server.games before more stamp (open_at server stamp) (p stamp)
+  are_known_on server before more p = λ stamp. seat_known_on server.shared.games before more stamp (open_at server stamp) (p stamp)
 
 -- ---- datagrams
 
@@ -89,11 +89,11 @@ module _ {G F : Type 0} (facts : GamesFacts G) where
 pub record HeardSo {F G : Type 0} (facts : GamesFacts G) (old new : Server G F) (before : List Event) (hs : List Heard) : Type 0 where
   pub quiet : SendsNothing (flat_map heard_events hs)
   pub known : AreKnown facts new (before ++ flat_map heard_events hs)
-  pub lasts : Lasts facts old.games new.games
-  pub backed : AllByRecursion (λ h. AreBacked facts new.games (before ++ flat_map heard_events hs) h.reply.outputs.items) hs
+  pub lasts : Lasts facts old.shared.games new.shared.games
+  pub backed : AllByRecursion (λ h. AreBacked facts new.shared.games (before ++ flat_map heard_events hs) h.reply.outputs.items) hs
 
 module _ {T P F K S L G : Type 0} (o : Outside T P F K S L) (facts : GamesFacts G) where
-  lasts_by : (old new : Server G F) (h : Heard) → HearsDatagram o facts old new h.datagram h.reply h.events → Lasts facts old.games new.games
+  lasts_by : (old new : Server G F) (h : Heard) → HearsDatagram o facts old new h.datagram h.reply h.events → Lasts facts old.shared.games new.shared.games
   lasts_by old new h d = record { place = d.still.place; noted = d.noted }
 
   heard_so : (old new : Server G F) (before : List Event) (hs : List Heard) → AreKnown facts old before → HearsAll o facts old hs new → HeardSo facts old new before hs
@@ -101,7 +101,7 @@ module _ {T P F K S L G : Type 0} (o : Outside T P F K S L) (facts : GamesFacts 
   heard_so old new before [] p is = record {
     quiet = tt;
     known = subst (λ (s : Server G F). AreKnown facts s (before ++ [])) (sym is) (are_known_on facts old before [] p);
-    lasts = subst (λ (s : Server G F). Lasts facts old.games s.games) (sym is) (record { place = refl; noted = λ stamp bytes n. n });
+    lasts = subst (λ (s : Server G F). Lasts facts old.shared.games s.games) (sym is) (record { place = refl; noted = λ stamp bytes n. n });
     backed = tt;
   }
   heard_so old new before (h ∷ hs) p d =
@@ -115,11 +115,11 @@ module _ {T P F K S L G : Type 0} (o : Outside T P F K S L) (facts : GamesFacts 
       record {
         quiet = quiet_join own (flat_map heard_events hs) ((λ to bytes is. cc), d.1.still.quiet) rest.quiet;
         known = subst (AreKnown facts new) whole rest.known;
-        lasts = lasts_then facts old.games d.0.games new.games (lasts_by old d.0 h d.1) rest.lasts;
+        lasts = lasts_then facts old.shared.games d.0.games new.shared.games (lasts_by old d.0 h d.1) rest.lasts;
         backed = (
-          subst (λ (l : List Event). AreBacked facts new.games l h.reply.outputs.items) whole
-              (backed_on facts d.0.games new.games rest.lasts (before ++ own) (flat_map heard_events hs) h.reply.outputs.items (subst (λ (l : List Event). AreBacked facts d.0.games l h.reply.outputs.items) at (d.1.backed (before ++ first) came))),
-          subst (λ (l : List Event). AllByRecursion (λ x. AreBacked facts new.games l x.reply.outputs.items) hs) whole rest.backed,
+          subst (λ (l : List Event). AreBacked facts new.shared.games l h.reply.outputs.items) whole
+              (backed_on facts d.0.games new.shared.games rest.lasts (before ++ own) (flat_map heard_events hs) h.reply.outputs.items (subst (λ (l : List Event). AreBacked facts d.0.games l h.reply.outputs.items) at (d.1.backed (before ++ first) came))),
+          subst (λ (l : List Event). AllByRecursion (λ x. AreBacked facts new.shared.games l x.reply.outputs.items) hs) whole rest.backed,
         );
       }
 
@@ -182,23 +182,23 @@ module _ {T P F K S L G : Type 0} (o : Outside T P F K S L) (facts : GamesFacts 
   sent_earned g g' events (Ok x) c before hs p spells = replies_earned (facts.places (facts.place g)) (before ++ events) to hs (rest_now g g' events x c before hs p) spells
   sent_earned g g' events (Err why) c before hs p spells = tt
 
-  round_earned : (most : ℕ) (old new : Server G F) (r : Round) (before : List Event) → AreKnown facts old before → IsRound o facts most old r new → Earned facts old new before (round_events to r)
-  round_earned most old new r before p is =
+  round_earned : (old new : Server G F) (r : Round) (before : List Event) → AreKnown facts old before → IsRound o facts old r new → Earned facts old new before (round_events to r)
+  round_earned old new r before p is =
       let so = heard_so o facts old is.mid before r.heard p is.heard in
-      let places : Places = facts.places (facts.place old.games) in
+      let places : Places = facts.places (facts.place old.shared.games) in
       let heard : List Event = flat_map heard_events r.heard in
       let ends : List Event = end_events r.end in
       let front : List Event = heard ++ ends in
       let out : List Event = round_sent to r.heard r.committed in
       let mid : AreKnown facts is.mid (before ++ front) = subst (AreKnown facts is.mid) (append_assoc before heard ends) (are_known_on facts is.mid (before ++ heard) ends so.known) in
-      let back : AllByRecursion (λ h. AreBacked facts is.mid.games (before ++ front) h.reply.outputs.items) r.heard =
-      subst (λ (l : List Event). AllByRecursion (λ h. AreBacked facts is.mid.games l h.reply.outputs.items) r.heard) (append_assoc before heard ends) (backs_on is.mid.games (before ++ heard) ends r.heard so.backed) in
-      let now : AreKnown facts new ((before ++ front) ++ r.commits) = λ stamp. subst (λ (seats : Option (Seat F)). IfSome seats (IsKnownSeat facts new.games ((before ++ front) ++ r.commits) stamp)) (sym (same_seat is.mid new stamp is.same.seats))
-      (seat_now facts is.mid.games new.games r.commits r.committed is.commits (before ++ front) stamp (open_at is.mid stamp) (mid stamp)) in
+      let back : AllByRecursion (λ h. AreBacked facts is.mid.shared.games (before ++ front) h.reply.outputs.items) r.heard =
+      subst (λ (l : List Event). AllByRecursion (λ h. AreBacked facts is.mid.shared.games l h.reply.outputs.items) r.heard) (append_assoc before heard ends) (backs_on is.mid.shared.games (before ++ heard) ends r.heard so.backed) in
+      let now : AreKnown facts new ((before ++ front) ++ r.commits) = λ stamp. subst (λ (seats : Option (Seat F)). IfSome seats (IsKnownSeat facts new.shared.games ((before ++ front) ++ r.commits) stamp)) (sym (same_seat is.mid new stamp is.same.seats))
+      (seat_now facts is.mid.shared.games new.shared.games r.commits r.committed is.commits (before ++ front) stamp (open_at is.mid stamp) (mid stamp)) in
       record {
         each = each_join places before front (r.commits ++ out) (quiet_earned places before front (quiet_join heard ends so.quiet (end_quiet r.end)))
             (each_join places (before ++ front) r.commits out (quiet_earned places (before ++ front) r.commits is.commits.still.quiet)
-            (subst (λ (at : facts.Place). EachEarned (facts.places at) ((before ++ front) ++ r.commits) out) so.lasts.place (sent_earned is.mid.games new.games r.commits r.committed is.commits (before ++ front) r.heard back is.spelled)));
+            (subst (λ (at : facts.Place). EachEarned (facts.places at) ((before ++ front) ++ r.commits) out) so.lasts.place (sent_earned is.mid.shared.games new.shared.games r.commits r.committed is.commits (before ++ front) r.heard back is.spelled)));
         known = subst (AreKnown facts new) (append_assoc (before ++ front) r.commits out ∙ append_assoc before front (r.commits ++ out)) (are_known_on facts new ((before ++ front) ++ r.commits) out now);
         place = is.commits.still.place ∙ so.lasts.place;
       }
@@ -210,16 +210,16 @@ module _ {T P F K S L G : Type 0} (o : Outside T P F K S L) (facts : GamesFacts 
       same_seat : (a b : Server G F) (stamp : List ℕ) → b.seats ≡ a.seats → open_at b stamp ≡ open_at a stamp
       same_seat a b stamp is = ap (λ seats. at_stamp seats.entries stamp) is
 
-  deed_earned : (most : ℕ) (old new : Server G F) (d : Deed) (before : List Event) → AreKnown facts old before → IsDeed o facts most old d new → Earned facts old new before (deed_events to d)
-  deed_earned most old new (Answers r) before p is = round_earned most old new r before p is
-  deed_earned most old new HearsNone before p is =
+  deed_earned : (old new : Server G F) (d : Deed) (before : List Event) → AreKnown facts old before → IsDeed o facts old d new → Earned facts old new before (deed_events to d)
+  deed_earned old new (Answers r) before p is = round_earned old new r before p is
+  deed_earned old new HearsNone before p is =
       let now : AreKnown facts new (before ++ Missed ∷ []) = subst (λ (s : Server G F). AreKnown facts s (before ++ Missed ∷ [])) (sym is) (are_known_on facts old before (Missed ∷ []) p) in
       record { each = ((λ dest bytes m e spells. absurd cc), tt); known = now; place = ap (λ (s : Server G F). facts.place s.games) is }
 
-  turn_earned : (most : ℕ) (form : LineForm) (texts : List (List ℕ)) (old new : Server G F) (t : Turn) (before : List Event) → AreKnown facts old before → IsTurn o facts most form texts old t new → Earned facts old new before (turn_events to t)
-  turn_earned most form texts old new t before p is =
-      let deed = deed_earned most old new t.deed before p is.deed in
-      let places : Places = facts.places (facts.place old.games) in
+  turn_earned : (form : LineForm) (texts : List (List ℕ)) (old new : Server G F) (t : Turn) (before : List Event) → AreKnown facts old before → IsTurn o facts form texts old t new → Earned facts old new before (turn_events to t)
+  turn_earned form texts old new t before p is =
+      let deed = deed_earned old new t.deed before p is.deed in
+      let places : Places = facts.places (facts.place old.shared.games) in
       let first : List Event = deed_events to t.deed in
       record {
         each = each_join places before first t.lines deed.each (quiet_earned places (before ++ first) t.lines (writing_quiet form texts (deed_lines t.deed) t.is_out t.lines is.lines));
@@ -227,19 +227,19 @@ module _ {T P F K S L G : Type 0} (o : Outside T P F K S L) (facts : GamesFacts 
         place = deed.place;
       }
 
-  turns_earned : (most : ℕ) (form : LineForm) (texts : List (List ℕ)) (old new : Server G F) (ts : List Turn) (before : List Event) → AreKnown facts old before → InTurns o facts most form texts old ts new → Earned facts old new before (run_events to ts)
+  turns_earned : (form : LineForm) (texts : List (List ℕ)) (old new : Server G F) (ts : List Turn) (before : List Event) → AreKnown facts old before → InTurns o facts form texts old ts new → Earned facts old new before (run_events to ts)
   unfolding InTurns
-  turns_earned most form texts old new [] before p is = record {
+  turns_earned form texts old new [] before p is = record {
     each = tt;
     known = subst (λ (s : Server G F). AreKnown facts s (before ++ [])) (sym is) (are_known_on facts old before [] p);
     place = ap (λ (s : Server G F). facts.place s.games) is;
   }
-  turns_earned most form texts old new (t ∷ ts) before p is =
-      let one = turn_earned most form texts old is.0 t before p is.1 in
+  turns_earned form texts old new (t ∷ ts) before p is =
+      let one = turn_earned form texts old is.0 t before p is.1 in
       let first : List Event = turn_events to t in
-      let more = turns_earned most form (after_lines texts (deed_lines t.deed)) is.0 new ts (before ++ first) one.known is.2 in
+      let more = turns_earned form (after_lines texts (deed_lines t.deed)) is.0 new ts (before ++ first) one.known is.2 in
       record {
-        each = each_join (facts.places (facts.place old.games)) before first (run_events to ts) one.each (subst (λ (at : facts.Place). EachEarned (facts.places at) (before ++ first) (run_events to ts)) one.place more.each);
+        each = each_join (facts.places (facts.place old.shared.games)) before first (run_events to ts) one.each (subst (λ (at : facts.Place). EachEarned (facts.places at) (before ++ first) (run_events to ts)) one.place more.each);
         known = subst (AreKnown facts new) (append_assoc before first (run_events to ts)) more.known;
         place = more.place ∙ one.place;
       }
@@ -249,9 +249,9 @@ module _ {T P F K S L G : Type 0} (o : Outside T P F K S L) (facts : GamesFacts 
   run_earned most form texts n old new t t' result run = (
     run_events to (with_last run.turns run.last),
     run.happens,
-    λ before p. turns_earned most form texts old new (with_last run.turns run.last) before p run.in_turn,
+    λ before p. turns_earned form texts old new (with_last run.turns run.last) before p run.in_turn,
   )
 
 -- the law
 pub acks_are_earned : {T P F K S L G : Type 0} (o : Outside T P F K S L) (facts : GamesFacts G) → AcksAreEarned o facts
-acks_are_earned o facts most form texts to old new turns before p is = turns_earned o facts to most form texts old new turns before p is
+acks_are_earned o facts form texts to old new turns before p is = turns_earned o facts to form texts old new turns before p is

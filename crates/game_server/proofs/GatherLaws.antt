@@ -71,10 +71,10 @@ module _ {T P F K S L G : Type 0} (o : Outside T P F K S L) (facts : GamesFacts 
     )
 
     -- some came
-    pub gathered : (end : RoundEnd) → Adds o b' c (end_events end) → 0 < length held → length held ≤ most → (length held ≡ most → end ≡ IsFull) → AddsSome o a c (Gathers o facts most old new held true)
-    gathered end q some few full =
+    pub gathered : (end : RoundEnd) → Adds o b' c (end_events end) → 0 < length held → length held ≤ most → (length held ≡ most → end ≡ IsFull) → (end ≡ IsFull → length held ≡ most) → AddsSome o a c (Gathers o facts most old new held true)
+    gathered end q some few full only =
         let count = held_count p.heard held p.are_held in
-        gathers true end q (omega (arith, count, some), omega (arith, count, few), λ all. full (sym count ∙ all))
+        gathers true end q (omega (arith, count, some), record { few = omega (arith, count, few); full = λ all. full (sym count ∙ all); only = λ is. count ∙ only is })
 
     no_heard : (hs : List Heard) → length hs ≡ 0 → hs ≡ []
     no_heard [] is = refl
@@ -87,4 +87,4 @@ module _ {T P F K S L G : Type 0} (o : Outside T P F K S L) (facts : GamesFacts 
         let count = held_count p.heard held p.are_held in
         gathers false ReceiveFails q (no_heard p.heard (omega (arith, zero, count)), refl)
     failed false is q few =
-        gathered ReceiveFails q (some_held (length held) (sym is)) (omega (arith, few)) (λ all. absurd (let e : length held ≡ most = all in omega (arith, e, few)))
+        gathered ReceiveFails q (some_held (length held) (sym is)) (omega (arith, few)) (λ all. absurd (let e : length held ≡ most = all in omega (arith, e, few))) (λ is. absurd (let f : ReceiveFails ≡ IsFull = is in cc))

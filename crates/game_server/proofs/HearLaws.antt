@@ -1,147 +1,198 @@
--- The game of a message is taken out or opened, and answers.
-use Rattle.std.proofs.Common.{◌≡◌, inl, inr, [], ◌∙◌, ℕ, Bool, true, false, cond, List, Option, Some, None, refl, sym, ap, subst, append-nil}
-use Rattle.std.specs.Prelude.{Result, Ok, Err, IfSome, option_map}
+-- The game of a message is opened where it isn't open, and answers.
+use Rattle.std.proofs.Common.{◌≡◌, inl, inr, [], ◌∷◌, ◌∙◌, ◌++◌, ◌-◌, ◌≤◌, ℕ, Bool, true, false, cond, length, take, List, Option, Some, None, refl, sym, ap, subst, append-nil}
+use Rattle.std.specs.Prelude.{Result, Ok, Err, IfErr, IfSome, OnOk, option_map}
+use Rattle.std.specs.List.{IsDistinct}
+use Rattle.std.specs.Map.{keys_of, remove_entry}
 use Rattle.std.specs.Str.{bytes_eq}
-use Rattle.std.specs.Cmp.Lexicographic.{nat_list_eq_equiv}
-use Rattle.std.proofs.lemmas.Result.{IfOk-weaker}
-use Rattle.lru.specs.LruCache.{LruCache}
+use Rattle.lru.specs.LruCache.{LruCache, lru_cache}
 use Rattle.arbiter_core.specs.Delivers.{Moment, moment}
 use Rattle.arbiter_server.specs.Room.{at_stamp}
 use Rattle.arbiter_server.specs.declared.fault.OpenGameError.{OpenGameError}
+use Rattle.arbiter_server.specs.declared.fault.OpenGameError.TheVariants as unopened
+use Rattle.judge_core.specs.Tables.{Holding}
 use Rattle.move_msg.specs.Messages.{stamp_in}
 use Rattle.move_msg.specs.declared.message.Message.{Message}
 use Rattle.timeline.specs.Events.{Event}
 use Rattle.timeline.specs.Outsides.{AddsSome, Outside}
 use Rattle.timeline.proofs.EventLaws.{adds_none}
-use Rattle.game_server.specs.Datagrams.{IsLeftOpen}
 use Rattle.game_folder.specs.Drafts.{DraftView, settled}
-use Rattle.game_server.specs.Fates.{OpensFor}
 use Rattle.game_folder.specs.Holdings.{GamesFacts}
-use Rattle.game_server.specs.Seats.{AreSeats, IsKnownSeat, IsSeat, common, open_at, seat_moment}
-use Rattle.game_server.specs.Inside.Seating.{AnswersFrom, DeliversTo, HadSeat, IsSeatedNow, OpensForMessage, SeatsFor, seated_as}
+use Rattle.game_server.specs.Datagrams.{IsLeftOpen}
+use Rattle.game_server.specs.Fates.{HasGame, IsFound, IsOther, NotFound, OpensFor, OpensNone, OpensSeat, SeatNotHeld, SeatOpened, SeatRefused, SeatUnkept, TakesAndOpens, TakesNone, TakesOne, is_unput}
+use Rattle.game_server.specs.Seats.{AreSeats, IsKnownSeat, IsSeat, SameCommon, common, in_use, open_at, room, seat_moment, without}
+use Rattle.game_server.specs.Inside.Seating.{AnswersAt, AnswersFrom, Brings, DeliversTo, IsOpenFor, IsSeatedNow, OpensForMessage, closes, reply_in, used_first}
+use Rattle.game_server.specs.declared.seat.Answer.{Answer}
+use Rattle.game_server.specs.declared.seat.Answer.TheVariants.{Closes, Stays}
 use Rattle.game_server.specs.declared.seat.Reply.{Reply}
 use Rattle.game_server.specs.declared.seat.Seat.{Seat}
 use Rattle.game_server.specs.declared.server.Server.{Server}
+use Rattle.game_server.specs.declared.server.Shared.{Shared}
 use Rattle.game_server.proofs.Knowing.{known_after}
+use Rattle.game_server.proofs.RoomLaws.{absent_without, at_first, at_other, keys_removed, keys_take, left_take, others_fit, removed_other, removed_own, used_removed, without_first}
 use Rattle.game_server.proofs.SeatLaws.{quiet_nothing}
-
--- a server with other seats
-abbrev pub with_seats : {G F : Type 0} → Server G F → LruCache (List ℕ) (Seat F) → Server G F
-with_seats server l = record server { seats = l }
-
--- the game with this stamp is taken out
-abbrev pub IsWithout : {F : Type 0} → (List ℕ → Option (Seat F)) → List ℕ → (List ℕ → Option (Seat F)) → Type 0
-IsWithout {F = F} old stamp new = (other : List ℕ) → new other ≡ cond (bytes_eq stamp other) None (old other)
-
-own_stamp : (stamp : List ℕ) → bytes_eq stamp stamp ≡ true
-own_stamp stamp = nat_list_eq_equiv.refl stamp
-
-module _ {F : Type 0} (old new : List ℕ → Option (Seat F)) (stamp : List ℕ) (h : IsWithout old stamp new) where
-  pub is_gone : new stamp ≡ None
-  is_gone = h stamp ∙ ap (λ (b : Bool). cond b None (old stamp)) (own_stamp stamp)
-
-  pub is_other : (other : List ℕ) → bytes_eq stamp other ≡ false → new other ≡ old other
-  is_other other apart = h other ∙ ap (λ (b : Bool). cond b None (old other)) apart
 
 at_some : {X : Type 0} (P : X → Type 0) (k : Option X) (x : X) → k ≡ Some x → IfSome k P → P x
 at_some {X = X} P k x is h = subst (λ (o : Option X). IfSome o P) is h
 
--- ---- the game of a message
+-- ---- a game was opened, and memory was refused to keep it open
 
-module _ {T P F K S L G : Type 0} (o : Outside T P F K S L) (facts : GamesFacts G) (old : Server G F) (m : Message) (l : LruCache (List ℕ) (Seat F)) (without : IsWithout (open_at old) (stamp_in m) (at_stamp l.entries)) where
-  pub seat_open : (seat : Seat F) (t : T) → open_at old (stamp_in m) ≡ Some seat → AreSeats o facts old → AddsSome o t t (SeatsFor o facts old (with_seats old l) m (Ok seat))
-  seat_open seat t is seats = (
+module _ {G : Type 0} (facts : GamesFacts G) where
+  seat_not_held : {place : facts.Place} {stamp : List ℕ} {setup : _} {draft : DraftView} {events : List Event} {at : Moment DraftView} → OpensSeat facts place stamp setup draft events (Ok at) → OpensSeat facts place stamp setup draft events (Err unopened.OutOfMemory)
+  seat_not_held {at = at} (SeatRefused after fault h none told) = absurd (let f : ◌≡◌ {A = Result (Moment DraftView) OpenGameError} (Ok at) (Err _) = told in cc)
+  seat_not_held {at = at} (SeatUnkept after v bytes h put keeps told) = absurd (let f : ◌≡◌ {A = Result (Moment DraftView) OpenGameError} (Ok at) (Err _) = told in cc)
+  seat_not_held {at = at} (SeatNotHeld after v h kept told) = absurd (let f : ◌≡◌ {A = Result (Moment DraftView) OpenGameError} (Ok at) (Err _) = told in cc)
+  seat_not_held (SeatOpened after v h kept told) = SeatNotHeld after v h kept refl
+
+  taken_not_held : {t : _} {g : G} {stamp : List ℕ} {game : _} {events : List Event} {at : Moment DraftView} → TakesAndOpens facts t g stamp game events (Ok at) → TakesAndOpens facts t g stamp game events (Err unopened.OutOfMemory)
+  taken_not_held {at = at} (TakesNone why takes told) = absurd (let f : ◌≡◌ {A = Result (Moment DraftView) OpenGameError} (Ok at) (Err why) = told in cc)
+  taken_not_held (TakesOne first rest got takes opens are) = TakesOne first rest got takes (seat_not_held opens) are
+
+  pub not_held : {t : _} {g : G} {m : Message} {events : List Event} {at : Moment DraftView} → OpensFor facts t g m events (Ok at) → OpensFor facts t g m events (Err unopened.OutOfMemory)
+  not_held {at = at} (OpensNone is none told) = absurd (let f : ◌≡◌ {A = Result (Moment DraftView) OpenGameError} (Ok at) (Err _) = told in cc)
+  not_held {at = at} (NotFound why is finds told) = absurd (let f : ◌≡◌ {A = Result (Moment DraftView) OpenGameError} (Ok at) (Err why) = told in cc)
+  not_held {at = at} (IsOther game is finds other told) = absurd (let f : ◌≡◌ {A = Result (Moment DraftView) OpenGameError} (Ok at) (Err _) = told in cc)
+  not_held (IsFound game first rest is finds of opens are) = IsFound game first rest is finds of (taken_not_held opens) are
+
+-- ---- the game of a message is opened where it isn't open
+
+-- a server with other games that are open
+abbrev pub with_seats : {G F : Type 0} → Shared G → LruCache (List ℕ) (Seat F) → Server G F
+with_seats shared l = record { shared = shared; seats = l }
+
+module _ {T P F K S L G : Type 0} (o : Outside T P F K S L) (facts : GamesFacts G) (old : Server G F) (m : Message) where
+  pub was_open_now : (seat : Seat F) (t : T) → open_at old (stamp_in m) ≡ Some seat → length old.seats.entries ≤ old.seats.cap → AreSeats o facts old → AddsSome o t t (Brings o facts old old m (Ok tt))
+  was_open_now seat t is fits seats = (
     [],
     adds_none o t,
     record {
-      config = refl;
-      tables = refl;
-      still = quiet_nothing facts old.games;
+      same = record { config = refl; tables = refl };
+      still = quiet_nothing facts old.shared.games;
       noted = λ stamp bytes n. n;
-      gone = is_gone (open_at old) (at_stamp l.entries) (stamp_in m) without;
-      others = is_other (open_at old) (at_stamp l.entries) (stamp_in m) without;
-      had = subst (λ (k : Option (Seat F)). HadSeat facts (common old) old.games m (option_map (seat_moment old.tables) k) [] (Ok (seat_moment old.tables seat))) (sym is) (refl, refl);
-      ok = at_some (IsSeat o facts old.games old.tables (stamp_in m)) (open_at old (stamp_in m)) seat is (seats (stamp_in m));
-      knows = λ before knew. subst (λ (b : List Event). IsKnownSeat facts old.games b (stamp_in m) seat) (sym (append-nil before)) (at_some (IsKnownSeat facts old.games before (stamp_in m)) (open_at old (stamp_in m)) seat is (knew (stamp_in m)));
+      room_is = refl;
+      is = record {
+        seat = seat;
+        open = is;
+        has = subst (λ (k : Option (Seat F)). HasGame facts (common old) old.shared.games m (option_map (seat_moment old.shared.tables) k) [] (seat_moment old.shared.tables seat)) (sym is) (refl, refl);
+        seated = at_some (IsSeat o facts old.shared.games old.shared.tables (stamp_in m)) (open_at old (stamp_in m)) seat is (seats (stamp_in m));
+        knows = λ before knew. subst (λ (b : List Event). IsKnownSeat facts old.shared.games b (stamp_in m) seat) (sym (append-nil before)) (at_some (IsKnownSeat facts old.shared.games before (stamp_in m)) (open_at old (stamp_in m)) seat is (knew (stamp_in m)));
+        others = λ other apart. inl refl;
+        used = others_fit (stamp_in m) old.seats.entries seat old.seats.cap is fits;
+      };
     },
   )
 
-  had_none : (events : List Event) (was : Option (Seat F)) (told : Result (Moment DraftView) OpenGameError) → was ≡ None → HadSeat facts (common old) old.games m None events told → HadSeat facts (common old) old.games m (option_map (seat_moment old.tables) was) events told
-  had_none events was told is h = subst (λ (k : Option (Seat F)). HadSeat facts (common old) old.games m (option_map (seat_moment old.tables) k) events told) (sym is) h
+  module _ (none : open_at old (stamp_in m) ≡ None) where
+    -- it isn't opened
+    pub not_opened : (new : Shared G) (why : OpenGameError) (t t' : T) → AddsSome o t t' (OpensForMessage o facts old.shared new m (Err why)) → AddsSome o t t' (Brings o facts old (with_seats new old.seats) m (Err why))
+    not_opened new why t t' p = (
+      p.0,
+      p.1,
+      record { same = p.2.same; still = p.2.still; noted = p.2.noted; room_is = refl; is = record { none = none; opens = p.2.opens; seats = refl } },
+    )
 
-  pub seat_opened : (new : Server G F) (result : Result (Seat F) OpenGameError) (t t' : T) → open_at old (stamp_in m) ≡ None → AddsSome o t t' (OpensForMessage o facts (with_seats old l) new m result) → AddsSome o t t' (SeatsFor o facts old new m result)
-  seat_opened new result t t' none p = (
-    p.0,
-    p.1,
-    record {
-      config = p.2.same.config;
-      tables = p.2.same.tables;
-      still = p.2.still;
-      noted = p.2.noted;
-      gone = ap (λ (c : LruCache (List ℕ) (Seat F)). at_stamp c.entries (stamp_in m)) p.2.same.seats ∙ is_gone (open_at old) (at_stamp l.entries) (stamp_in m) without;
-      others = λ other apart. ap (λ (c : LruCache (List ℕ) (Seat F)). at_stamp c.entries other) p.2.same.seats ∙ is_other (open_at old) (at_stamp l.entries) (stamp_in m) without other apart;
-      had = had_none p.0 (open_at old (stamp_in m)) (seated_as old.tables result) none (had_by result p.2.opens);
-      ok = p.2.ok;
-      knows = λ before knew. IfOk-weaker result _ _ (λ seat k. record { bytes = k.bytes; kept = k.kept; is = known_after facts new.games new.games refl (stamp_in m) k.bytes before p.0 k.is }) p.2.knows;
-    },
-  )
-    where
-      had_by : (r : Result (Seat F) OpenGameError) → OpensFor facts (common old) old.games m p.0 (seated_as old.tables r) → HadSeat facts (common old) old.games m None p.0 (seated_as old.tables r)
-      had_by (Ok seat) opens = opens
-      had_by (Err why) opens = (refl, opens)
+    module _ (new : Shared G) (seat : Seat F) (t t' : T) (p : AddsSome o t t' (OpensForMessage o facts old.shared new m (Ok seat))) where
+      refused : (l : LruCache (List ℕ) (Seat F)) (why : OpenGameError) → (why ≡ unopened.OutOfMemory) × (l ≡ old.seats) → AddsSome o t t' (Brings o facts old (with_seats new l) m (Err why))
+      refused l why h = subst (λ (w : OpenGameError). AddsSome o t t' (Brings o facts old (with_seats new l) m (Err w))) (sym h.0)
+          (subst (λ (c : LruCache (List ℕ) (Seat F)). AddsSome o t t' (Brings o facts old (with_seats new c) m (Err unopened.OutOfMemory))) (sym h.1) (
+            p.0,
+            p.1,
+            record { same = p.2.same; still = p.2.still; noted = p.2.noted; room_is = refl; is = record { none = none; opens = not_held facts p.2.opens; seats = refl } },
+          ))
 
--- ---- a game in hand answers
+      abbrev entries : List (List ℕ × Seat F)
+      entries = (stamp_in m, seat) ∷ take (old.seats.cap - 1) old.seats.entries
 
-module _ {T P F K S L G : Type 0} (o : Outside T P F K S L) (facts : GamesFacts G) (old mid : Server G F) (seat seat' : Seat F) (m : Message) (reply : Reply) (absent : open_at old (stamp_in m) ≡ None) where
-  at_mid : (events : List Event) (stays : Bool) → DeliversTo o facts old mid seat seat' m (reply, stays) events → (other : List ℕ) → open_at mid other ≡ open_at old other
-  at_mid events stays h other = ap (λ (c : LruCache (List ℕ) (Seat F)). at_stamp c.entries other) h.same.seats
+      has_now : (was : Option (Seat F)) → was ≡ None → HasGame facts (common old) old.shared.games m (option_map (seat_moment old.shared.tables) was) p.0 (seat_moment old.shared.tables seat)
+      has_now was is = subst (λ (k : Option (Seat F)). HasGame facts (common old) old.shared.games m (option_map (seat_moment old.shared.tables) k) p.0 (seat_moment old.shared.tables seat)) (sym is) p.2.opens
 
-  module _ (events : List Event) (l : LruCache (List ℕ) (Seat F)) (h : DeliversTo o facts old mid seat seat' m (reply, true) events) (left : (other : List ℕ) → IsLeftOpen (cond (bytes_eq (stamp_in m) other) (Some seat') (open_at mid other)) (at_stamp l.entries other)) where
-    abbrev left_by : Moment DraftView
-    left_by = moment h.after.arbiter (settled h.after.keeper)
+      put : (l : LruCache (List ℕ) (Seat F)) → l ≡ lru_cache entries old.seats.cap → AddsSome o t t' (Brings o facts old (with_seats new l) m (Ok tt))
+      put l is = subst (λ (c : LruCache (List ℕ) (Seat F)). AddsSome o t t' (Brings o facts old (with_seats new c) m (Ok tt))) (sym is) (
+        p.0,
+        p.1,
+        record {
+          same = p.2.same;
+          still = p.2.still;
+          noted = p.2.noted;
+          room_is = refl;
+          is = record {
+            seat = seat;
+            open = at_first (take (old.seats.cap - 1) old.seats.entries) (stamp_in m) seat;
+            has = has_now (open_at old (stamp_in m)) none;
+            seated = p.2.ok;
+            knows = λ before knew. let k = p.2.knows in record { bytes = k.bytes; kept = k.kept; is = known_after facts new.games new.games refl (stamp_in m) k.bytes before p.0 k.is };
+            others = λ other apart. subst (IsLeftOpen (open_at old other)) (sym (at_other (take (old.seats.cap - 1) old.seats.entries) (stamp_in m) other seat apart)) (left_take (old.seats.cap - 1) old.seats.entries other);
+            used = without_first (stamp_in m) (keys_of (take (old.seats.cap - 1) old.seats.entries)) ∙ (keys_take (old.seats.cap - 1) old.seats.entries
+                ∙ ap (take (old.seats.cap - 1)) (sym (absent_without (stamp_in m) old.seats.entries none)));
+          };
+        },
+      )
 
-    own_seat : (k : Option (Seat F)) → IsLeftOpen (Some seat') k → IsSeatedNow o facts old.games mid.games old.tables (stamp_in m) seat left_by events k
-    own_seat None kept = tt
-    own_seat (Some now) (inl same) = let is : seat' ≡ now = cc in
-        subst (λ (x : Seat F). IsSeatedNow o facts old.games mid.games old.tables (stamp_in m) seat left_by events (Some x)) is (h.seated refl, h.left, λ before knew. h.knows before knew refl)
-    own_seat (Some now) (inr gone) = absurd cc
+      -- it is opened, and put in
+      pub opened : (l : LruCache (List ℕ) (Seat F)) (result : Result (Unit {0}) OpenGameError) → OnOk result (l ≡ lru_cache entries old.seats.cap) → IfErr result (λ why. (why ≡ unopened.OutOfMemory) × (l ≡ old.seats)) → AddsSome o t t' (Brings o facts old (with_seats new l) m result)
+      opened l (Ok x) ok err = put l ok
+      opened l (Err why) ok err = refused l why err
 
-    stays_on : AnswersFrom o facts old (with_seats mid l) seat m reply events
-    stays_on = record {
-      config = h.same.config;
-      tables = h.same.tables;
-      still = h.still;
-      noted = h.noted;
-      told = h.told;
-      after = h.after;
-      is_kept = h.is_kept;
-      answers = h.answers;
-      is = h.reply;
-      closed = λ lost. absurd (let f : true ≡ false = h.closed lost in cc);
-      own = own_seat (at_stamp l.entries (stamp_in m)) (subst (λ (k : Option (Seat F)). IsLeftOpen k (at_stamp l.entries (stamp_in m))) (ap (λ (b : Bool). cond b (Some seat') (open_at mid (stamp_in m))) (own_stamp (stamp_in m))) (left (stamp_in m)));
-      others = λ other apart. subst (λ (k : Option (Seat F)). IsLeftOpen k (at_stamp l.entries other)) (ap (λ (b : Bool). cond b (Some seat') (open_at mid other)) apart ∙ at_mid events true h other) (left other);
-      backed = h.backed;
-    }
+-- ---- a game that is open answers
 
-  closes : (events : List Event) → DeliversTo o facts old mid seat seat' m (reply, false) events → AnswersFrom o facts old mid seat m reply events
-  closes events h = record {
-    config = h.same.config;
-    tables = h.same.tables;
-    still = h.still;
-    noted = h.noted;
-    told = h.told;
-    after = h.after;
-    is_kept = h.is_kept;
-    answers = h.answers;
-    is = h.reply;
-    closed = λ lost. at_mid events false h (stamp_in m) ∙ absent;
-    own = subst (λ (k : Option (Seat F)). IsSeatedNow o facts old.games mid.games old.tables (stamp_in m) seat (moment h.after.arbiter (settled h.after.keeper)) events k) (sym (at_mid events false h (stamp_in m) ∙ absent)) tt;
-    others = λ other apart. inl (at_mid events false h other);
-    backed = h.backed;
-  }
+module _ {T P F K S L G : Type 0} (o : Outside T P F K S L) (facts : GamesFacts G) (old new : Server G F) (m : Message) (result : Answer) (events : List Event) (a : AnswersAt o facts old new m result events) where
+  abbrev left_by : Moment DraftView
+  left_by = moment a.delivers.after.arbiter (settled a.delivers.after.keeper)
 
-  pub answered_on : (l : LruCache (List ℕ) (Seat F)) (stays : Bool) (t t' : T) → stays ≡ true → ((other : List ℕ) → IsLeftOpen (cond (bytes_eq (stamp_in m) other) (Some seat') (open_at mid other)) (at_stamp l.entries other)) → AddsSome o t t' (DeliversTo o facts old mid seat seat' m (reply, stays)) → AddsSome o t t' (AnswersFrom o facts old (with_seats mid l) seat m reply)
-  answered_on l stays t t' is left p = (p.0, p.1, stays_on p.0 l (subst (λ (b : Bool). DeliversTo o facts old mid seat seat' m (reply, b) p.0) is p.2) left)
+  abbrev rest : List (List ℕ × Seat F)
+  rest = remove_entry (bytes_eq (stamp_in m)) old.seats.entries
 
-  pub answered_last : (stays : Bool) (t t' : T) → stays ≡ false → AddsSome o t t' (DeliversTo o facts old mid seat seat' m (reply, stays)) → AddsSome o t t' (AnswersFrom o facts old mid seat m reply)
-  answered_last stays t t' is p = (p.0, p.1, closes p.0 (subst (λ (b : Bool). DeliversTo o facts old mid seat seat' m (reply, b) p.0) is p.2))
+  rest_keys : keys_of rest ≡ without (stamp_in m) (in_use old)
+  rest_keys = keys_removed (stamp_in m) old.seats.entries
+
+  -- it stays open, as the one used latest
+  pub stays_open : closes result ≡ false → AnswersFrom o facts old new m (reply_in result) events
+  stays_open open =
+      let unlost : is_unput a.delivers.after.keeper.to_put a.delivers.is_kept a.delivers.told ≡ false = sym a.delivers.closed ∙ open in
+      let entries : new.seats.entries ≡ used_first (stamp_in m) a.left old.seats.entries = ap (λ (c : LruCache (List ℕ) (Seat F)). c.entries) a.entries in
+      record {
+        same = a.delivers.same;
+        still = a.delivers.still;
+        noted = a.delivers.noted;
+        room_is = ap (λ (c : LruCache (List ℕ) (Seat F)). c.cap) a.entries;
+        seat = a.seat;
+        open = a.open;
+        told = a.delivers.told;
+        after = a.delivers.after;
+        is_kept = a.delivers.is_kept;
+        answers = a.delivers.answers;
+        is = a.delivers.reply;
+        own = subst (λ (b : Bool). IsSeatedNow o facts old.shared.games new.shared.games old.shared.tables (stamp_in m) a.seat left_by events b (open_at new (stamp_in m))) (sym unlost)
+            (subst (λ (k : Option (Seat F)). IsSeatedNow o facts old.shared.games new.shared.games old.shared.tables (stamp_in m) a.seat left_by events false k)
+            (sym (ap (λ (es : List (List ℕ × Seat F)). at_stamp es (stamp_in m)) entries ∙ at_first rest (stamp_in m) a.left))
+            (a.delivers.seated open, a.delivers.left, λ before knew. a.delivers.knows before knew open));
+        others = λ other apart. ap (λ (es : List (List ℕ × Seat F)). at_stamp es other) entries ∙ (at_other rest (stamp_in m) other a.left apart ∙ removed_other old.seats.entries (stamp_in m) a.apart other apart);
+        used = ap (λ (es : List (List ℕ × Seat F)). keys_of es) entries ∙ (ap (λ (l : List (List ℕ)). stamp_in m ∷ l) rest_keys
+            ∙ ap (λ (b : Bool). cond b (without (stamp_in m) (in_use old)) (stamp_in m ∷ without (stamp_in m) (in_use old))) (sym unlost));
+        backed = a.delivers.backed;
+      }
+
+  -- it is closed
+  pub is_closed : (l : LruCache (List ℕ) (Seat F)) → closes result ≡ true → l ≡ lru_cache (remove_entry (bytes_eq (stamp_in m)) new.seats.entries) new.seats.cap → AnswersFrom o facts old (with_seats new.shared l) m (reply_in result) events
+  is_closed l closed is =
+      let lost : is_unput a.delivers.after.keeper.to_put a.delivers.is_kept a.delivers.told ≡ true = sym a.delivers.closed ∙ closed in
+      let entries : l.entries ≡ rest = ap (λ (c : LruCache (List ℕ) (Seat F)). c.entries) is
+      ∙ (ap (λ (c : LruCache (List ℕ) (Seat F)). remove_entry (bytes_eq (stamp_in m)) c.entries) a.entries ∙ used_removed rest (stamp_in m) a.left) in
+      record {
+        same = a.delivers.same;
+        still = a.delivers.still;
+        noted = a.delivers.noted;
+        room_is = ap (λ (c : LruCache (List ℕ) (Seat F)). c.cap) is ∙ ap (λ (c : LruCache (List ℕ) (Seat F)). c.cap) a.entries;
+        seat = a.seat;
+        open = a.open;
+        told = a.delivers.told;
+        after = a.delivers.after;
+        is_kept = a.delivers.is_kept;
+        answers = a.delivers.answers;
+        is = a.delivers.reply;
+        own = subst (λ (b : Bool). IsSeatedNow o facts old.shared.games new.shared.games old.shared.tables (stamp_in m) a.seat left_by events b (at_stamp l.entries (stamp_in m))) (sym lost)
+            (ap (λ (es : List (List ℕ × Seat F)). at_stamp es (stamp_in m)) entries ∙ removed_own old.seats.entries (stamp_in m) a.apart);
+        others = λ other apart. ap (λ (es : List (List ℕ × Seat F)). at_stamp es other) entries ∙ removed_other old.seats.entries (stamp_in m) a.apart other apart;
+        used = ap (λ (es : List (List ℕ × Seat F)). keys_of es) entries ∙ (rest_keys
+            ∙ ap (λ (b : Bool). cond b (without (stamp_in m) (in_use old)) (stamp_in m ∷ without (stamp_in m) (in_use old))) (sym lost));
+        backed = a.delivers.backed;
+      }

@@ -1,5 +1,5 @@
 -- A round, and a run of them.
-use Rattle.std.proofs.Common.{◌≡◌, ◌∙◌, ℕ, Bool, true, false, cond, ◌+◌, ◌<◌, ◌≤◌, ◌++◌, List, [], ◌∷◌, Option, Some, None, length, refl, sym, ap, ap₂, subst, append_assoc, append-nil, arith}
+use Rattle.std.proofs.Common.{◌≡◌, ◌∙◌, ℕ, Bool, true, false, cond, ◌+◌, ◌-◌, ◌<◌, ◌≤◌, ◌++◌, min, List, [], ◌∷◌, Option, Some, None, length, refl, sym, ap, ap₂, subst, append_assoc, append-nil, arith}
 use Rattle.std.specs.Prelude.{Result, Ok, Err, OnOk, map}
 use Rattle.std.specs.List.{AllByRecursion, flat_map}
 use Rattle.std.proofs.lemmas.List.Concat.{flat_map-append}
@@ -16,7 +16,7 @@ use Rattle.arbiter_server.specs.declared.line.Line.TheVariants as line
 use Rattle.timeline.specs.Events.{is_done}
 use Rattle.game_folder.specs.Holdings.{CommitsGames, GamesFacts}
 use Rattle.game_server.specs.Rounds.{Heard, HearsAll, IsFull, IsRound, IsSpelled, ReceiveFails, Round, RoundEnd, end_events, heard_events, is_loss, lines_of, reply_sent, round_events, round_sent, withheld_line}
-use Rattle.game_server.specs.Runs.{Answers, Deed, EndsBy, GoesOnAfter, HearsNone, InTurns, IsTurn, Serves, Turn, came, came_in, deed_lines, ends_run, run_events, turn_events}
+use Rattle.game_server.specs.Runs.{Answers, AreWithin, Deed, EndsBy, GoesOnAfter, HearsNone, InTurns, IsTurn, IsWithin, Serves, Turn, came, came_in, deed_lines, ends_run, run_events, turn_events}
 use Rattle.game_server.specs.Seats.{SameSeats}
 use Rattle.game_server.specs.Sending.{AllSpelled, address, sent}
 use Rattle.game_server.specs.Inside.Running.{AreHeld, AreSpelled, ConcludesRound, EndsTurn, Gathers, IsAfter, TakesTurn, WritesAll, all_sent, held_lines}
@@ -91,24 +91,14 @@ port_ends lines (Err fault) is = refl
 four_join : (g c s l : List Event) → g ++ (c ++ (s ++ l)) ≡ (g ++ (c ++ s)) ++ l
 four_join g c s l = ap (λ (x : List Event). g ++ x) (sym (append_assoc c s l)) ∙ sym (append_assoc g (c ++ s) l)
 
-module _ {T P F K S L G : Type 0} (o : Outside T P F K S L) (facts : GamesFacts G) (before : List (List ℕ)) (most : ℕ) (old new : PortServer G F) (port : P) (within : most ≤ old.replies.most) (mid : Server G F) (a b c d : T) (same : SameSeats mid new.server) (commits : List Event) (its : Adds o b c commits) where
+module _ {T P F K S L G : Type 0} (o : Outside T P F K S L) (facts : GamesFacts G) (before : List (List ℕ)) (most : ℕ) (old new : PortServer G F) (port : P) (mid : Server G F) (a b c d : T) (same : SameSeats mid new.server) (commits : List Event) (its : Adds o b c commits) where
   module _ (held : List Held) (g : AddsSome o a b (Gathers o facts most old.server mid held true)) where
     abbrev pub round_by : Result (Unit {0}) Uncommitted → Round
     round_by committed = record { heard = g.2.heard; end = g.2.end; commits = commits; committed = committed }
 
-    is_round : (committed : Result (Unit {0}) Uncommitted) → CommitsGames facts mid.games new.server.games committed commits → IsSpelled g.2.heard committed → IsRound o facts old.replies.most old.server (round_by committed) new.server
+    is_round : (committed : Result (Unit {0}) Uncommitted) → CommitsGames facts mid.shared.games new.server.shared.games committed commits → IsSpelled g.2.heard committed → IsRound o facts old.server (round_by committed) new.server
     is_round committed done spelled =
-        let few = g.2.is.1 in
-        record {
-          mid = mid;
-          heard = g.2.hears;
-          some = g.2.is.0;
-          few = omega (arith, few, within);
-          full = λ all. g.2.is.2 (let whole : length g.2.heard ≡ old.replies.most = all in omega (arith, few, within, whole));
-          commits = done;
-          same = same;
-          spelled = spelled;
-        }
+        record { mid = mid; heard = g.2.hears; some = g.2.is.0; commits = done; same = same; spelled = spelled }
 
     happens : (to : List Recipient) (committed : Result (Unit {0}) Uncommitted) (sends lines : List Event) → Adds o c d (sends ++ lines) → sends ≡ round_sent to g.2.heard committed → Adds o a d (round_events to (round_by committed) ++ lines)
     happens to committed sends lines more is =
@@ -124,22 +114,22 @@ module _ {T P F K S L G : Type 0} (o : Outside T P F K S L) (facts : GamesFacts 
 
     -- its replies were sent or withheld
     answered : (committed : Result (Unit {0}) Uncommitted) (is_sent : Bool) (r : Result AfterRound WriteFault) → is_loss committed ≡ false → lines_of g.2.heard committed ≡ held_lines is_sent held → cond is_sent (all_sent (o.port port).to held) [] ≡ round_sent (o.port port).to g.2.heard committed
-        → IsSpelled g.2.heard committed → CommitsGames facts mid.games new.server.games committed commits → ConcludesRound o before (o.port port).to is_sent held old.lines new.lines c d r → TakesTurn o facts before most old new port a d r
+        → IsSpelled g.2.heard committed → CommitsGames facts mid.shared.games new.server.shared.games committed commits → ConcludesRound o before (o.port port).to is_sent held old.lines new.lines c d r → TakesTurn o facts before most old new port a d r
     answered committed is_sent r kept lines sends spelled done q = record {
       turn = record { deed = Answers (round_by committed); lines = q.made.2.0; is_out = is_done r };
       is = record { deed = is_round committed done spelled; lines = subst (λ (ls : List Line). WritesLines (form_in old.lines) before ls (is_done r) q.made.2.0) (sym lines) q.made.2.2 };
-      few = g.2.is.1;
+      within = g.2.is.1;
       goes = goes_on committed q.made.2.0 r kept q.goes;
       happens = happens (o.port port).to committed (cond is_sent (all_sent (o.port port).to held) []) q.made.2.0 (subst (Adds o c d) q.made.2.1 q.made.1) sends;
       after = λ is. subst (λ (ls : List Line). KnowsLines new.lines (after_lines before ls)) (sym lines) (subst (λ (x : Result AfterRound WriteFault). OnOk x (KnowsLines new.lines (after_lines before (held_lines is_sent held)))) is q.after);
       same = q.same;
     }
 
-    pub round_sent_on : (r : Result AfterRound WriteFault) → CommitsGames facts {A = Unit {0}} mid.games new.server.games (Ok tt) commits → ConcludesRound o before (o.port port).to true held old.lines new.lines c d r → TakesTurn o facts before most old new port a d r
+    pub round_sent_on : (r : Result AfterRound WriteFault) → CommitsGames facts {A = Unit {0}} mid.shared.games new.server.shared.games (Ok tt) commits → ConcludesRound o before (o.port port).to true held old.lines new.lines c d r → TakesTurn o facts before most old new port a d r
     round_sent_on r done q =
         answered (Ok tt) true r refl (lines_sent g.2.heard held g.2.are_held) (sym (sent_same (o.port port).to g.2.heard held g.2.are_held)) (spelled_same g.2.heard held g.2.are_held (q.spelled refl)) done q
 
-    pub round_withheld : (r : Result AfterRound WriteFault) → CommitsGames facts {A = Unit {0}} mid.games new.server.games (Err uncommitted.OutOfMemory) commits → ConcludesRound o before (o.port port).to false held old.lines new.lines c d r → TakesTurn o facts before most old new port a d r
+    pub round_withheld : (r : Result AfterRound WriteFault) → CommitsGames facts {A = Unit {0}} mid.shared.games new.server.shared.games (Err uncommitted.OutOfMemory) commits → ConcludesRound o before (o.port port).to false held old.lines new.lines c d r → TakesTurn o facts before most old new port a d r
     round_withheld r done q = answered (Err uncommitted.OutOfMemory) false r refl (lines_withheld g.2.heard held g.2.are_held) refl tt done q
 
     ends_so : (committed : Result (Unit {0}) Uncommitted) (lines : List Event) (r : Result AfterRound WriteFault) → is_loss committed ≡ true → OnOk r (r ≡ Ok Stops)
@@ -150,21 +140,21 @@ module _ {T P F K S L G : Type 0} (o : Outside T P F K S L) (facts : GamesFacts 
 
     -- no more can be committed
     dropped : (committed : Result (Unit {0}) Uncommitted) (l : Line) (r : Result AfterRound WriteFault) → is_loss committed ≡ true → l ∷ [] ≡ lines_of g.2.heard committed → [] ≡ round_sent (o.port port).to g.2.heard committed → IsSpelled g.2.heard committed
-        → CommitsGames facts mid.games new.server.games committed commits → EndsTurn o before old.lines new.lines l c d r → TakesTurn o facts before most old new port a d r
+        → CommitsGames facts mid.shared.games new.server.shared.games committed commits → EndsTurn o before old.lines new.lines l c d r → TakesTurn o facts before most old new port a d r
     dropped committed l r lost lines sends spelled done q = record {
       turn = record { deed = Answers (round_by committed); lines = q.made.0; is_out = is_done r };
       is = record { deed = is_round committed done spelled; lines = subst (λ (ls : List Line). WritesLines (form_in old.lines) before ls (is_done r) q.made.0) lines q.made.2 };
-      few = g.2.is.1;
+      within = g.2.is.1;
       goes = ends_so committed q.made.0 r lost q.stops;
       happens = happens (o.port port).to committed [] q.made.0 q.made.1 sends;
       after = λ is. absurd (never r (length g.2.heard) q.stops is);
       same = q.same;
     }
 
-    pub store_lost : (r : Result AfterRound WriteFault) → CommitsGames facts {A = Unit {0}} mid.games new.server.games (Err uncommitted.StoreLost) commits → EndsTurn o before old.lines new.lines line.StoreLost c d r → TakesTurn o facts before most old new port a d r
+    pub store_lost : (r : Result AfterRound WriteFault) → CommitsGames facts {A = Unit {0}} mid.shared.games new.server.shared.games (Err uncommitted.StoreLost) commits → EndsTurn o before old.lines new.lines line.StoreLost c d r → TakesTurn o facts before most old new port a d r
     store_lost r done q = dropped (Err uncommitted.StoreLost) line.StoreLost r refl refl refl tt done q
 
-    pub memory_lost : (r : Result AfterRound WriteFault) → CommitsGames facts {A = Unit {0}} mid.games new.server.games (Err uncommitted.NotNoted) commits → EndsTurn o before old.lines new.lines line.MemoryLost c d r → TakesTurn o facts before most old new port a d r
+    pub memory_lost : (r : Result AfterRound WriteFault) → CommitsGames facts {A = Unit {0}} mid.shared.games new.server.shared.games (Err uncommitted.NotNoted) commits → EndsTurn o before old.lines new.lines line.MemoryLost c d r → TakesTurn o facts before most old new port a d r
     memory_lost r done q = dropped (Err uncommitted.NotNoted) line.MemoryLost r refl refl refl tt done q
 
 -- no datagram could be received
@@ -182,12 +172,16 @@ port_lost o facts before most old new port held a b c r g q =
     record {
       turn = record { deed = HearsNone; lines = q.made.0; is_out = is_done r };
       is = record { deed = nothing_heard o facts old.server new.server g.2.heard g.2.is.0 g.2.hears; lines = q.made.2 };
-      few = omega arith;
+      within = tt;
       goes = port_ends q.made.0 r q.stops;
       happens = adds_more o a b c (end_events ReceiveFails) q.made.0 (subst (Adds o a b) missed g.1) q.made.1;
       after = λ is. absurd (never r 0 q.stops is);
       same = q.same;
     }
+
+came_within : (most : ℕ) (deed : Deed) → IsWithin most deed → came_in deed ≤ most
+came_within most (Answers round) h = h.few
+came_within most HearsNone h = omega arith
 
 -- ---- a run
 
@@ -196,10 +190,10 @@ abbrev pub texts_after : List (List ℕ) → List Turn → List (List ℕ)
 texts_after before [] = before
 texts_after before (t ∷ ts) = texts_after (after_lines before (deed_lines t.deed)) ts
 
-module _ {T P F K S L G : Type 0} (o : Outside T P F K S L) (facts : GamesFacts G) (most : ℕ) (form : LineForm) where
-  turns_on : (before : List (List ℕ)) (old mid new : Server G F) (ts : List Turn) (t : Turn) → InTurns o facts most form before old ts mid → IsTurn o facts most form (texts_after before ts) mid t new → InTurns o facts most form before old (ts ++ t ∷ []) new
+module _ {T P F K S L G : Type 0} (o : Outside T P F K S L) (facts : GamesFacts G) (most n : ℕ) (form : LineForm) where
+  turns_on : (before : List (List ℕ)) (old mid new : Server G F) (ts : List Turn) (t : Turn) → InTurns o facts form before old ts mid → IsTurn o facts form (texts_after before ts) mid t new → InTurns o facts form before old (ts ++ t ∷ []) new
   unfolding InTurns
-  turns_on before old mid new [] t p q = (new, subst (λ (s : Server G F). IsTurn o facts most form before s t new) p q, refl)
+  turns_on before old mid new [] t p q = (new, subst (λ (s : Server G F). IsTurn o facts form before s t new) p q, refl)
   turns_on before old mid new (x ∷ ts) t p q = (p.0, p.1, turns_on (after_lines before (deed_lines x.deed)) p.0 mid new ts t p.2 q)
 
   -- so many datagrams were answered, and the run goes on
@@ -207,14 +201,15 @@ module _ {T P F K S L G : Type 0} (o : Outside T P F K S L) (facts : GamesFacts 
     pub turns : List Turn
     pub count : came turns ≡ k
     pub going : AllByRecursion GoesOnAfter turns
-    pub in_turn : InTurns o facts most form [] old turns new
+    pub in_turn : InTurns o facts form [] old turns new
+    pub within : AreWithin most n turns
     pub knows : KnowsLines lines' (texts_after [] turns)
     pub same : form_in lines' ≡ form
     pub happens : Adds o t t' (run_events to turns)
 
   pub none_served : (to : List Recipient) (server : Server G F) (lines : Lines) (t : T) → KnowsLines lines [] → form_in lines ≡ form → HasServed to server server lines lines t t 0
-  unfolding InTurns
-  none_served to server lines t knows same = record { turns = []; count = refl; going = tt; in_turn = refl; knows = knows; same = same; happens = adds_none o t }
+  unfolding InTurns, AreWithin
+  none_served to server lines t knows same = record { turns = []; count = refl; going = tt; in_turn = refl; within = tt; knows = knows; same = same; happens = adds_none o t }
 
   texts_join : (before : List (List ℕ)) (ts : List Turn) (t : Turn) → texts_after before (ts ++ t ∷ []) ≡ after_lines (texts_after before ts) (deed_lines t.deed)
   texts_join before [] t = refl
@@ -228,18 +223,27 @@ module _ {T P F K S L G : Type 0} (o : Outside T P F K S L) (facts : GamesFacts 
   going_join [] t p q = (q, tt)
   going_join (x ∷ ts) t p q = (p.0, going_join ts t p.1 q)
 
+  within_join : (left : ℕ) (ts : List Turn) (t : Turn) → AreWithin most left ts → IsWithin (min most (left - came ts)) t.deed → AreWithin most left (ts ++ t ∷ [])
+  unfolding AreWithin
+  within_join left [] t p q = (subst (λ (m : ℕ). IsWithin (min most m) t.deed) (omega arith) q, tt)
+  within_join left (x ∷ ts) t p q = (p.0, within_join (left - came_in x.deed) ts t p.1 (subst (λ (m : ℕ). IsWithin (min most m) t.deed) (omega arith) q))
+
   run_join : (to : List Recipient) (ts : List Turn) (t : Turn) → run_events to (ts ++ t ∷ []) ≡ run_events to ts ++ turn_events to t
   run_join to ts t = flat_map-append (turn_events to) ts (t ∷ []) ∙ ap (λ (l : List Event). run_events to ts ++ l) (append-nil (turn_events to t))
 
-  module _ (old mid new : PortServer G F) (port port' : P) (a b c : T) (k limit : ℕ) (same : (o.port port').to ≡ (o.port port).to) (most_is : mid.replies.most ≡ most) (p : HasServed (o.port port).to old.server mid.server old.lines mid.lines a b k) where
+  module _ (old mid new : PortServer G F) (port port' : P) (a b c : T) (k limit : ℕ) (same : (o.port port').to ≡ (o.port port).to) (limit_is : limit ≡ min most (n - k)) (p : HasServed (o.port port).to old.server mid.server old.lines mid.lines a b k) where
     module _ (r : Result AfterRound WriteFault) (q : (before : List (List ℕ)) → KnowsLines mid.lines before → TakesTurn o facts before limit mid new port' b c r) where
       next : TakesTurn o facts (texts_after [] p.turns) limit mid new port' b c r
       next = q (texts_after [] p.turns) p.knows
 
-      in_turn_on : InTurns o facts most form [] old.server (p.turns ++ next.turn ∷ []) new.server
+      in_turn_on : InTurns o facts form [] old.server (p.turns ++ next.turn ∷ []) new.server
       unfolding next
       in_turn_on = turns_on [] old.server mid.server new.server p.turns next.turn p.in_turn
-          (subst (λ (f : LineForm). IsTurn o facts most f (texts_after [] p.turns) mid.server next.turn new.server) p.same (subst (λ (m : ℕ). IsTurn o facts m (form_in mid.lines) (texts_after [] p.turns) mid.server next.turn new.server) most_is next.is))
+          (subst (λ (f : LineForm). IsTurn o facts f (texts_after [] p.turns) mid.server next.turn new.server) p.same next.is)
+
+      within_on : AreWithin most n (p.turns ++ next.turn ∷ [])
+      unfolding next
+      within_on = within_join n p.turns next.turn p.within (subst (λ (m : ℕ). IsWithin m next.turn.deed) (limit_is ∙ ap (λ (m : ℕ). min most (n - m)) (sym p.count)) next.within)
 
       happens_on : Adds o a c (run_events (o.port port).to (p.turns ++ next.turn ∷ []))
       unfolding next
@@ -247,13 +251,13 @@ module _ {T P F K S L G : Type 0} (o : Outside T P F K S L) (facts : GamesFacts 
           (adds_more o a b c (run_events (o.port port).to p.turns) (turn_events (o.port port).to next.turn) p.happens (subst (λ (to : List Recipient). Adds o b c (turn_events to next.turn)) same next.happens))
 
     -- one turn more, after which the run goes on
-    pub one_served : (r : Result AfterRound WriteFault) (n : ℕ) → r ≡ Ok (GoesOn n) → ((before : List (List ℕ)) → KnowsLines mid.lines before → TakesTurn o facts before limit mid new port' b c r) → HasServed (o.port port).to old.server new.server old.lines new.lines a c (k + n) × (n ≤ limit)
+    pub one_served : (r : Result AfterRound WriteFault) (m : ℕ) → r ≡ Ok (GoesOn m) → ((before : List (List ℕ)) → KnowsLines mid.lines before → TakesTurn o facts before limit mid new port' b c r) → HasServed (o.port port).to old.server new.server old.lines new.lines a c (k + m) × (m ≤ limit)
     unfolding next
-    one_served r n is q =
+    one_served r m is q =
         let t = next r q in
-        let goes : IsAfter t.turn (Ok (GoesOn n)) = subst (IsAfter t.turn) is t.goes in
+        let goes : IsAfter t.turn (Ok (GoesOn m)) = subst (IsAfter t.turn) is t.goes in
         let count = p.count in
-        let few = t.few in
+        let few = came_within limit t.turn.deed t.within in
         let n_is = goes.2 in
         let joined = came_join p.turns t.turn in (
           record {
@@ -261,7 +265,8 @@ module _ {T P F K S L G : Type 0} (o : Outside T P F K S L) (facts : GamesFacts 
             count = omega (arith, count, n_is, joined);
             going = going_join p.turns t.turn p.going (goes.0, goes.1);
             in_turn = in_turn_on r q;
-            knows = subst (KnowsLines new.lines) (sym (texts_join [] p.turns t.turn)) (t.after (is ∙ ap (λ m. Ok (GoesOn m)) n_is));
+            within = within_on r q;
+            knows = subst (KnowsLines new.lines) (sym (texts_join [] p.turns t.turn)) (t.after (is ∙ ap (λ k. Ok (GoesOn k)) n_is));
             same = t.same ∙ p.same;
             happens = happens_on r q;
           },
@@ -269,10 +274,10 @@ module _ {T P F K S L G : Type 0} (o : Outside T P F K S L) (facts : GamesFacts 
         )
 
     -- the last turn
-    last_served : (r : Result AfterRound WriteFault) (q : (before : List (List ℕ)) → KnowsLines mid.lines before → TakesTurn o facts before limit mid new port' b c r) (n : ℕ) (result : Result ℕ WriteFault) → k < n → EndsBy (next r q).turn result
+    last_served : (r : Result AfterRound WriteFault) (q : (before : List (List ℕ)) → KnowsLines mid.lines before → TakesTurn o facts before limit mid new port' b c r) (result : Result ℕ WriteFault) → k < n → EndsBy (next r q).turn result
         → Serves o facts most form [] n (o.port port).to old.server new.server a c result
     unfolding next
-    last_served r q n result more ends =
+    last_served r q result more ends =
         let t = next r q in
         let count = p.count in
         record {
@@ -280,22 +285,28 @@ module _ {T P F K S L G : Type 0} (o : Outside T P F K S L) (facts : GamesFacts 
           last = Some t.turn;
           going = p.going;
           in_turn = in_turn_on r q;
+          within = within_on r q;
           ends = (omega (arith, count, more), ends);
           happens = happens_on r q;
         }
 
-    pub served_stops : (r : Result AfterRound WriteFault) (n : ℕ) → k < n → r ≡ Ok Stops → ((before : List (List ℕ)) → KnowsLines mid.lines before → TakesTurn o facts before limit mid new port' b c r) → Serves o facts most form [] n (o.port port).to old.server new.server a c (Ok 1)
+    pub served_stops : (r : Result AfterRound WriteFault) → k < n → r ≡ Ok Stops → ((before : List (List ℕ)) → KnowsLines mid.lines before → TakesTurn o facts before limit mid new port' b c r) → Serves o facts most form [] n (o.port port).to old.server new.server a c (Ok 1)
     unfolding next
-    served_stops r n more is q =
+    served_stops r more is q =
         let goes : IsAfter (next r q).turn (Ok Stops) = subst (IsAfter (next r q).turn) is (next r q).goes in
-        last_served r q n (Ok 1) more (goes.0, goes.1, refl)
+        last_served r q (Ok 1) more (goes.0, goes.1, refl)
 
-    pub served_cut : (r : Result AfterRound WriteFault) (n : ℕ) (fault : WriteFault) → k < n → r ≡ Err fault → ((before : List (List ℕ)) → KnowsLines mid.lines before → TakesTurn o facts before limit mid new port' b c r) → Serves o facts most form [] n (o.port port).to old.server new.server a c (Err fault)
+    pub served_cut : (r : Result AfterRound WriteFault) (fault : WriteFault) → k < n → r ≡ Err fault → ((before : List (List ℕ)) → KnowsLines mid.lines before → TakesTurn o facts before limit mid new port' b c r) → Serves o facts most form [] n (o.port port).to old.server new.server a c (Err fault)
     unfolding next
-    served_cut r n fault more is q =
+    served_cut r fault more is q =
         let goes : IsAfter (next r q).turn (Err fault) = subst (IsAfter (next r q).turn) is (next r q).goes in
-        last_served r q n (Err fault) more goes
+        last_served r q (Err fault) more goes
 
     -- all came
-    pub served_all : (n : ℕ) → k ≡ n → Serves o facts most form [] n (o.port port).to old.server mid.server a b (Ok 0)
-    served_all n all = record { turns = p.turns; last = None; going = p.going; in_turn = p.in_turn; ends = (p.count ∙ all, refl); happens = p.happens }
+    pub served_all : k ≡ n → Serves o facts most form [] n (o.port port).to old.server mid.server a b (Ok 0)
+    served_all all = record { turns = p.turns; last = None; going = p.going; in_turn = p.in_turn; within = p.within; ends = (p.count ∙ all, refl); happens = p.happens }
+
+  -- lines go on as they are written
+  pub form_after : (to : List Recipient) (old : Server G F) (lines : Lines) (mid new : PortServer G F) (port' : P) (a b c : T) (k : ℕ) {limit : ℕ} {r : Result AfterRound WriteFault} → HasServed to old mid.server lines mid.lines a b k
+      → ((before : List (List ℕ)) → KnowsLines mid.lines before → TakesTurn o facts before limit mid new port' b c r) → form_in new.lines ≡ form
+  form_after to old lines mid new port' a b c k p q = (q (texts_after [] p.turns) p.knows).same ∙ p.same

@@ -86,11 +86,13 @@ module _ {G : Type 0} (facts : GamesFacts G) where
 
 -- ---- a game is opened
 
--- over a draft of what was found an arbiter is opened, and what it has to put is kept; or it is refused
+-- Over a draft of what was found an arbiter is opened, and what it has to put is kept. Or it is refused; or that isn't kept; or memory is
+-- refused to keep the game open.
 module _ {G : Type 0} (facts : GamesFacts G) (place : facts.Place) (stamp : List ℕ) (setup : SetupView) (draft : DraftView) where
   pub data OpensSeat (events : List Event) (told : Result (Moment DraftView) OpenGameError) : Type 0 where
     SeatRefused : (after : DraftView) (fault : OpenFault) → IsOpening draft_facts setup draft after (Err fault) → events ≡ [] → told ≡ Err (unopened_by fault) → OpensSeat events told
     SeatUnkept : (after : DraftView) (v : View) (bytes : List ℕ) → IsOpening draft_facts setup draft after (Ok v) → after.to_put ≡ Some bytes → facts.keeps place stamp bytes false events → told ≡ Err unopened.Keeper → OpensSeat events told
+    SeatNotHeld : (after : DraftView) (v : View) → IsOpening draft_facts setup draft after (Ok v) → KeptIfAny facts place stamp after.to_put events → told ≡ Err unopened.OutOfMemory → OpensSeat events told
     SeatOpened : (after : DraftView) (v : View) → IsOpening draft_facts setup draft after (Ok v) → KeptIfAny facts place stamp after.to_put events → told ≡ Ok (moment v (settled after)) → OpensSeat events told
 
 -- its record is taken by these events, and it is opened over that

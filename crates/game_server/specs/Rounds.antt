@@ -38,6 +38,12 @@ pub data RoundEnd : Type 0 where
   NoMore : RoundEnd
   ReceiveFails : RoundEnd
 
+-- at most so many are taken, and a round is full where there are so many, and only then
+pub record TakesUpTo (room : ℕ) (heard : List Heard) (end : RoundEnd) : Type 0 where
+  pub few : length heard ≤ room
+  pub full : length heard ≡ room → end ≡ IsFull
+  pub only : end ≡ IsFull → length heard ≡ room
+
 abbrev pub end_events : RoundEnd → List Event
 end_events IsFull = []
 end_events NoMore = Quiet 0 ∷ []
@@ -90,14 +96,11 @@ abbrev pub IsSpelled : List Heard → Result (Unit {0}) Uncommitted → Type 0
 IsSpelled heard (Ok x) = AllByRecursion (λ h. AllSpelled h.reply.outputs.items) heard
 IsSpelled heard (Err why) = Unit {0}
 
--- There is at least one datagram, and there are at most so many; as many as that end it. Each is heard in turn; then what was noted is
--- committed, or not.
-pub record IsRound {T P F K S L G : Type 0} (o : Outside T P F K S L) (facts : GamesFacts G) (most : ℕ) (old : Server G F) (r : Round) (new : Server G F) : Type 0 where
+-- There is at least one datagram. Each is heard in turn; then what was noted is committed, or not.
+pub record IsRound {T P F K S L G : Type 0} (o : Outside T P F K S L) (facts : GamesFacts G) (old : Server G F) (r : Round) (new : Server G F) : Type 0 where
   pub mid : Server G F
   pub heard : HearsAll o facts old r.heard mid
   pub some : 0 < length r.heard
-  pub few : length r.heard ≤ most
-  pub full : length r.heard ≡ most → r.end ≡ IsFull
-  pub commits : CommitsGames facts mid.games new.games r.committed r.commits
+  pub commits : CommitsGames facts mid.shared.games new.shared.games r.committed r.commits
   pub same : SameSeats mid new
   pub spelled : IsSpelled r.heard r.committed

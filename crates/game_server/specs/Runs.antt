@@ -1,5 +1,5 @@
 -- A run of a server of games, over one timeline (this project's own).
-use Rattle.std.specs.Prelude.{◌≡◌, ◌<◌, ◌+◌, ◌++◌, ℕ, Bool, true, false, List, [], ◌∷◌, length, Option, Some, None, Result, Ok, Err}
+use Rattle.std.specs.Prelude.{◌≡◌, ◌<◌, ◌+◌, ◌-◌, ◌++◌, ℕ, min, Bool, true, false, List, [], ◌∷◌, length, Option, Some, None, Result, Ok, Err}
 use Rattle.std.specs.List.{AllByRecursion, flat_map}
 use Rattle.arbiter_server.specs.declared.line.Line.{Line}
 use Rattle.arbiter_server.specs.declared.line.Line.TheVariants as line
@@ -9,7 +9,7 @@ use Rattle.timeline.specs.Events.{Event, Missed}
 use Rattle.timeline.specs.Outsides.{Adds, Outside}
 use Rattle.game_folder.specs.Holdings.{GamesFacts}
 use Rattle.game_server.specs.Printing.{LineForm, WritesLines, after_lines}
-use Rattle.game_server.specs.Rounds.{IsRound, Round, is_loss, lines_of, round_events}
+use Rattle.game_server.specs.Rounds.{IsRound, Round, TakesUpTo, is_loss, lines_of, round_events}
 use Rattle.game_server.specs.declared.server.Server.{Server}
 
 -- datagrams came, and were answered; or none could be received
@@ -52,9 +52,9 @@ ends_run HearsNone = true
 abbrev pub GoesOnAfter : Turn → Type 0
 GoesOnAfter t = (ends_run t.deed ≡ false) × (t.is_out ≡ true)
 
-module _ {T P F K S L G : Type 0} (o : Outside T P F K S L) (facts : GamesFacts G) (most : ℕ) where
+module _ {T P F K S L G : Type 0} (o : Outside T P F K S L) (facts : GamesFacts G) where
   abbrev pub IsDeed : Server G F → Deed → Server G F → Type 0
-  IsDeed old (Answers round) new = IsRound o facts most old round new
+  IsDeed old (Answers round) new = IsRound o facts old round new
   IsDeed old HearsNone new = new ≡ old
 
   -- one turn, after these texts
@@ -71,6 +71,16 @@ module _ {T P F K S L G : Type 0} (o : Outside T P F K S L) (facts : GamesFacts 
 abbrev pub EndsBy : Turn → Result ℕ WriteFault → Type 0
 EndsBy t (Ok status) = (ends_run t.deed ≡ true) × (t.is_out ≡ true) × (status ≡ 1)
 EndsBy t (Err fault) = t.is_out ≡ false
+
+-- there is room for so many datagrams of a round
+abbrev pub IsWithin : ℕ → Deed → Type 0
+IsWithin room (Answers round) = TakesUpTo room round.heard round.end
+IsWithin room HearsNone = Unit {0}
+
+-- in each turn for as many as may be answered together, and as are still to come
+unfoldable pub AreWithin : ℕ → ℕ → List Turn → Type 0
+AreWithin most left [] = Unit {0}
+AreWithin most left (t ∷ ts) = IsWithin (min most left) t.deed × AreWithin most (left - came_in t.deed) ts
 
 -- Where all so many datagrams came the status is 0. Otherwise one turn more was the last.
 abbrev pub RunEnds : ℕ → ℕ → Option Turn → Result ℕ WriteFault → Type 0
@@ -90,6 +100,7 @@ pub record Serves {T P F K S L G : Type 0} (o : Outside T P F K S L) (facts : Ga
   pub turns : List Turn
   pub last : Option Turn
   pub going : AllByRecursion GoesOnAfter turns
-  pub in_turn : InTurns o facts most form before old (with_last turns last) new
+  pub in_turn : InTurns o facts form before old (with_last turns last) new
+  pub within : AreWithin most n (with_last turns last)
   pub ends : RunEnds n (came turns) last result
   pub happens : Adds o t t' (run_events to (with_last turns last))

@@ -1,14 +1,14 @@
 //! One datagram at a server of many games.
 
-ghost use Rattle.std.specs.Prelude.{◌≡◌, None};
+ghost use Rattle.std.specs.Prelude.{◌≡◌, IsSome};
 ghost use Rattle.move_msg.specs.Messages.{stamp_in};
 ghost use Rattle.timeline.specs.Outsides.{AddsSome};
-ghost use Rattle.game_server.specs.Seats.{AreSeats, IsSeat, open_at};
+ghost use Rattle.game_server.specs.Seats.{AreSeats, open_at};
 ghost use Rattle.game_server.specs.Datagrams.{HearsDatagram};
-ghost use Rattle.game_server.specs.Inside.Seating.{AnswersFromIn, AnswersMessageIn, SeatsFor};
+ghost use Rattle.game_server.specs.Inside.Seating.{AnswersAtIn, AnswersFromIn, AnswersMessageIn, BringsIn};
 
-use crate::room::{settle, take_out};
-use crate::seat::{Reply, Seat};
+use crate::room::put_in;
+use crate::seat::{Answer, Reply};
 use crate::seating::{deliver, line_alone, open_for};
 use crate::server::Server;
 use arbiter_server::{Line, OpenGameError};
@@ -16,40 +16,65 @@ use game_folder::Games;
 use move_msg::Message;
 use timeline::System;
 
-/// Takes the game that a message is of out, or opens it.
-fn seat_for<'a, S: System, G: Games<S> + Drop>(
+/// Opens the game that a message is of, where it isn't open. Where there is no room the one used least recently is closed.
+fn bring<'a, S: System, G: Games<S> + Drop>(
     server: &mut Server<'a, G, S::File>,
     system: &S,
     timeline: &mut S::Timeline,
     message: &Message,
-) -> Result<Seat<'a, S::File>, OpenGameError>
+) -> Result<(), OpenGameError>
     requires { AreSeats (S.outside system.now) (G.facts system.now) server.old }
-    ensures made { AddsSome (S.outside system.now) timeline.old timeline.new (SeatsFor (S.outside system.now) (G.facts system.now) server.old server.new message.now result) }
+    ensures made { BringsIn (S.outside system.now) (G.facts system.now) server.old server.new message.now timeline.old timeline.new result }
 {
-    match take_out(&mut server.seats, message.stamp()) {
-        Some(seat) => Ok(seat),
-        None => open_for(server, system, timeline, message),
+    let stamp = message.stamp();
+    // Called for its contract: it brings the map's invariant into the proof.
+    let _valid = server.seats.len();
+    if server.seats.contains(&stamp) {
+        return Ok(());
+    }
+    match open_for(&mut server.shared, system, timeline, message) {
+        Ok(seat) => put_in(&mut server.seats, stamp, seat),
+        Err(why) => Err(why),
     }
 }
 
-/// Lets the arbiter of a game that is in hand answer a message. The game stays open, unless its record couldn't be kept.
+/// Lets the arbiter of a game that is open answer a message. The game is the one used latest then.
 fn answer_at<'a, S: System, G: Games<S> + Drop>(
     server: &mut Server<'a, G, S::File>,
     system: &S,
     timeline: &mut S::Timeline,
-    seat: Seat<'a, S::File>,
+    message: &Message,
+) -> Answer
+    requires seats { AreSeats (S.outside system.now) (G.facts system.now) server.old }
+    requires open { IsSome (open_at server.old (stamp_in message.now)) }
+    ensures made { AnswersAtIn (S.outside system.now) (G.facts system.now) server.old server.new message.now timeline.old timeline.new result }
+{
+    // Called for its contract: it brings the map's invariant into the proof.
+    let _valid = server.seats.len();
+    let Some(seat) = server.seats.get_mut(&message.stamp()) else {
+        unreachable!()
+    };
+    deliver(&mut server.shared, system, timeline, seat, message)
+}
+
+/// Lets the arbiter of a game that is open answer a message, and closes the game where its record couldn't be kept.
+fn answer_or_close<'a, S: System, G: Games<S> + Drop>(
+    server: &mut Server<'a, G, S::File>,
+    system: &S,
+    timeline: &mut S::Timeline,
     message: &Message,
 ) -> Reply
-    requires absent { open_at server.old (stamp_in message.now) ≡ None }
-    requires seated { IsSeat (S.outside system.now) (G.facts system.now) server.old.games server.old.tables (stamp_in message.now) seat }
-    ensures made { AnswersFromIn (S.outside system.now) (G.facts system.now) server.old server.new seat.entry message.now timeline.old timeline.new result }
+    requires seats { AreSeats (S.outside system.now) (G.facts system.now) server.old }
+    requires open { IsSome (open_at server.old (stamp_in message.now)) }
+    ensures made { AnswersFromIn (S.outside system.now) (G.facts system.now) server.old server.new message.now timeline.old timeline.new result }
 {
-    let mut seat = seat;
-    let (reply, stays) = deliver(server, system, timeline, &mut seat, message);
-    if stays {
-        settle(&mut server.seats, message.stamp(), seat);
+    match answer_at(server, system, timeline, message) {
+        Answer::Stays(reply) => reply,
+        Answer::Closes(reply) => {
+            let _closed = server.seats.pop(&message.stamp());
+            reply
+        }
     }
-    reply
 }
 
 /// Lets the arbiter of the game that a message is of answer it, if there is one.
@@ -62,9 +87,9 @@ fn answer<'a, S: System, G: Games<S> + Drop>(
     requires { AreSeats (S.outside system.now) (G.facts system.now) server.old }
     ensures made { AnswersMessageIn (S.outside system.now) (G.facts system.now) server.old server.new message.now timeline.old timeline.new result }
 {
-    match seat_for(server, system, timeline, message) {
-        Ok(seat) => answer_at(server, system, timeline, seat, message),
-        Err(why) => line_alone(server.alloc, Line::Unopened(message.stamp(), why)),
+    match bring(server, system, timeline, message) {
+        Ok(()) => answer_or_close(server, system, timeline, message),
+        Err(why) => line_alone(server.shared.alloc, Line::Unopened(message.stamp(), why)),
     }
 }
 
@@ -82,6 +107,6 @@ pub fn hear<'a, S: System, G: Games<S> + Drop>(
 {
     match Message::decode(bytes) {
         Ok(message) => answer(server, system, timeline, &message),
-        Err(fault) => line_alone(server.alloc, Line::Unread(fault)),
+        Err(fault) => line_alone(server.shared.alloc, Line::Unread(fault)),
     }
 }

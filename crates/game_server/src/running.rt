@@ -132,7 +132,7 @@ fn round<'a, S: System, G: Games<S> + Drop>(
     ) {
         return end(system, timeline, &mut at.lines, Line::PortLost);
     }
-    match at.server.games.commit(system, timeline) {
+    match at.server.shared.games.commit(system, timeline) {
         Ok(()) => conclude(system, timeline, port, &at.replies, &mut at.lines, true),
         Err(Uncommitted::OutOfMemory) => {
             conclude(system, timeline, port, &at.replies, &mut at.lines, false)
@@ -166,6 +166,7 @@ pub fn serve<'a, S: System, G: Games<S> + Drop>(
     ensures run { Serves (S.outside system.now) (G.facts system.now) at.old.replies.most (form_in at.old.lines) [] n ((S.outside system.now).port port.old).to at.old.server at.new.server timeline.old timeline.new result }
     ensures same { SendsToSame ((S.outside system.now).port port.old) ((S.outside system.now).port port.new) }
     ensures most { at.new.replies.most ≡ at.old.replies.most }
+    ensures form { form_in at.new.lines ≡ form_in at.old.lines }
     ensures earned { EarnsFrom (S.outside system.now) (G.facts system.now) at.old.server at.new.server timeline.old timeline.new }
     ensures seats { AreSeats (S.outside system.now) (G.facts system.now) at.new.server }
     ensures cause { OnErr result (OutputFails (S.outside system.now)) }

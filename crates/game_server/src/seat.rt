@@ -19,3 +19,12 @@ pub struct Reply {
     /// The line.
     pub line: Line,
 }
+
+/// What a game that is open answers, and what becomes of it.
+#[derive(Drop)]
+pub(crate) enum Answer {
+    /// It stays open.
+    Stays(Reply),
+    /// Its record wasn't kept: it is to be closed.
+    Closes(Reply),
+}

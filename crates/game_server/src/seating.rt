@@ -10,8 +10,8 @@ ghost use Rattle.game_server.specs.Seats.{IsSeat};
 ghost use Rattle.game_server.specs.Inside.Seating.{DeliversIn, OpensForIn, OpensOverKept, OpensTaken};
 
 use crate::lookup::{found, opens_game};
-use crate::seat::{Reply, Seat};
-use crate::server::Server;
+use crate::seat::{Answer, Reply, Seat};
+use crate::server::Shared;
 use arbiter_core::{ArbiterState, OpenFault, Terms};
 use arbiter_server::{DatagramReport, GameConfig, Line, OpenGameError};
 use game_folder::{Games, KeptGame};
@@ -35,28 +35,28 @@ fn unopened(fault: OpenFault) -> OpenGameError
 
 /// Opens a game over its record, and keeps the first one where there was none.
 fn open_over<'a, S: System, G: Games<S> + Drop>(
-    server: &mut Server<'a, G, S::File>,
+    shared: &mut Shared<'a, G>,
     system: &S,
     timeline: &mut S::Timeline,
     kept: KeptGame<S::File>,
     game: GameConfig,
 ) -> Result<Seat<'a, S::File>, OpenGameError>
-    requires game { IsGameOf server.old.config.manifest.now kept.stamp game.name.items game.start game.delay }
-    requires within { IsKeptIn (S.outside system.now) ((G.facts system.now).places ((G.facts system.now).place server.old.games) kept.stamp) kept.file }
+    requires game { IsGameOf shared.old.config.manifest.now kept.stamp game.name.items game.start game.delay }
+    requires within { IsKeptIn (S.outside system.now) ((G.facts system.now).places ((G.facts system.now).place shared.old.games) kept.stamp) kept.file }
     requires clean { kept.draft.to_put ≡ None }
-    ensures made { AddsSome (S.outside system.now) timeline.old timeline.new (OpensOverKept (S.outside system.now) (G.facts system.now) server.old server.new kept game result) }
+    ensures made { AddsSome (S.outside system.now) timeline.old timeline.new (OpensOverKept (S.outside system.now) (G.facts system.now) shared.old shared.new kept game result) }
 {
     let GameConfig { name, start, delay } = game;
     let terms = Terms {
         name,
         start,
-        manifest: server.config.manifest,
-        me: server.config.me,
+        manifest: shared.config.manifest,
+        me: shared.config.me,
         delay,
     };
     let mut kept = kept;
-    match ArbiterState::open(server.alloc, &mut server.tables, &mut kept.draft, terms) {
-        Ok(state) => match server.games.keep(system, timeline, &mut kept) {
+    match ArbiterState::open(shared.alloc, &mut shared.tables, &mut kept.draft, terms) {
+        Ok(state) => match shared.games.keep(system, timeline, &mut kept) {
             Ok(()) => Ok(Seat { state, kept }),
             Err(_) => Err(OpenGameError::Keeper),
         },
@@ -66,43 +66,43 @@ fn open_over<'a, S: System, G: Games<S> + Drop>(
 
 /// Takes the record of a game that was found, and opens it.
 fn open_found<'a, S: System, G: Games<S> + Drop>(
-    server: &mut Server<'a, G, S::File>,
+    shared: &mut Shared<'a, G>,
     system: &S,
     timeline: &mut S::Timeline,
     stamp: Stamp,
     game: GameConfig,
 ) -> Result<Seat<'a, S::File>, OpenGameError>
-    requires { IsGameOf server.old.config.manifest.now stamp game.name.items game.start game.delay }
-    ensures made { AddsSome (S.outside system.now) timeline.old timeline.new (OpensTaken (S.outside system.now) (G.facts system.now) server.old server.new stamp game result) }
+    requires { IsGameOf shared.old.config.manifest.now stamp game.name.items game.start game.delay }
+    ensures made { AddsSome (S.outside system.now) timeline.old timeline.new (OpensTaken (S.outside system.now) (G.facts system.now) shared.old shared.new stamp game result) }
 {
-    match server.games.take(server.alloc, system, timeline, stamp) {
-        Ok(kept) => open_over(server, system, timeline, kept, game),
+    match shared.games.take(shared.alloc, system, timeline, stamp) {
+        Ok(kept) => open_over(shared, system, timeline, kept, game),
         Err(why) => Err(why),
     }
 }
 
 /// Opens the game that a message is of, where it is one that opens games.
 pub(crate) fn open_for<'a, S: System, G: Games<S> + Drop>(
-    server: &mut Server<'a, G, S::File>,
+    shared: &mut Shared<'a, G>,
     system: &S,
     timeline: &mut S::Timeline,
     message: &Message,
 ) -> Result<Seat<'a, S::File>, OpenGameError>
-    ensures made { OpensForIn (S.outside system.now) (G.facts system.now) server.old server.new message.now timeline.old timeline.new result }
+    ensures made { OpensForIn (S.outside system.now) (G.facts system.now) shared.old shared.new message.now timeline.old timeline.new result }
 {
     if !opens_game(message) {
         return Err(OpenGameError::NotOpen);
     }
     let stamp = message.stamp();
     match found(
-        server.alloc,
+        shared.alloc,
         system,
         timeline,
-        &server.games,
-        server.config.manifest,
+        &shared.games,
+        shared.config.manifest,
         stamp,
     ) {
-        Ok(game) => open_found(server, system, timeline, stamp, game),
+        Ok(game) => open_found(shared, system, timeline, stamp, game),
         Err(why) => Err(why),
     }
 }
@@ -118,39 +118,39 @@ pub(crate) fn line_alone(alloc: Global, line: Line) -> Reply
     }
 }
 
-/// Lets the arbiter of a game that is open answer a message, and keeps what it has to put. Returns what is answered, and whether the game
-/// stays open: where its record can't be kept, its answer isn't sent, and it doesn't.
+/// Lets the arbiter of a game that is open answer a message, and keeps what it has to put. Where its record can't be kept, its answer isn't
+/// sent, and the game is to be closed.
 pub(crate) fn deliver<'a, S: System, G: Games<S> + Drop>(
-    server: &mut Server<'a, G, S::File>,
+    shared: &mut Shared<'a, G>,
     system: &S,
     timeline: &mut S::Timeline,
     seat: &mut Seat<'a, S::File>,
     message: &Message,
-) -> (Reply, bool)
-    requires { IsSeat (S.outside system.now) (G.facts system.now) server.old.games server.old.tables (stamp_in message.now) seat.old }
-    ensures made { DeliversIn (S.outside system.now) (G.facts system.now) server.old server.new seat.old seat.new message.now timeline.old timeline.new result }
+) -> Answer
+    requires { IsSeat (S.outside system.now) (G.facts system.now) shared.old.games shared.old.tables (stamp_in message.now) seat.old }
+    ensures made { DeliversIn (S.outside system.now) (G.facts system.now) shared.old shared.new seat.old seat.new message.now timeline.old timeline.new result }
 {
     let stamp = message.stamp();
     match seat.state.deliver(
-        server.alloc,
-        &mut server.tables,
+        shared.alloc,
+        &mut shared.tables,
         &mut seat.kept.draft,
         message,
     ) {
-        Ok(outputs) => match server.games.keep(system, timeline, &mut seat.kept) {
+        Ok(outputs) => match shared.games.keep(system, timeline, &mut seat.kept) {
             Ok(()) => {
                 let heard = DatagramReport::Recorded(seat.state.count(), seat.state.verdict());
                 let line = Line::Answered(stamp, heard);
-                (Reply { outputs, line }, true)
+                Answer::Stays(Reply { outputs, line })
             }
             Err(_) => {
                 let line = Line::Answered(stamp, DatagramReport::KeeperLost);
-                (line_alone(server.alloc, line), false)
+                Answer::Closes(line_alone(shared.alloc, line))
             }
         },
         Err(fault) => {
             let line = Line::Answered(stamp, DatagramReport::refused(fault));
-            (line_alone(server.alloc, line), true)
+            Answer::Stays(line_alone(shared.alloc, line))
         }
     }
 }

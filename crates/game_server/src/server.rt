@@ -11,13 +11,19 @@ use lru::LruCache;
 use move_msg::Stamp;
 use std::alloc::{AllocError, Global};
 
-/// A server of games: those that are open, with the tables that all judge by.
+/// What all games of a server share: how it is set up, the tables that all judge by, and where the games are found.
 #[derive(Drop)]
-pub struct Server<'a, G: Drop, F: Drop> {
+pub struct Shared<'a, G: Drop> {
     pub(crate) alloc: Global,
     pub(crate) config: ServerConfig<'a>,
     pub(crate) tables: Set<'a>,
     pub(crate) games: G,
+}
+
+/// A server of games: what all share, and those that are open.
+#[derive(Drop)]
+pub struct Server<'a, G: Drop, F: Drop> {
+    pub(crate) shared: Shared<'a, G>,
     pub(crate) seats: LruCache<Stamp, Seat<'a, F>>,
 }
 
@@ -31,15 +37,16 @@ impl<'a, G: Drop, F: Drop> Server<'a, G, F> {
     ) -> Result<Server<'a, G, F>, AllocError>
         ensures { IfOk result (IsNewServer (common_with config.entry tables.entry) games) }
     {
-        match LruCache::new(alloc, config.at_once) {
-            Ok(seats) => Ok(Server {
-                alloc,
-                config,
-                tables,
-                games,
-                seats,
-            }),
-            Err(_) => Err(AllocError),
-        }
+        let seats = match LruCache::new(alloc, config.at_once) {
+            Ok(seats) => seats,
+            Err(_) => return Err(AllocError),
+        };
+        let shared = Shared {
+            alloc,
+            config,
+            tables,
+            games,
+        };
+        Ok(Server { shared, seats })
     }
 }

@@ -10,7 +10,7 @@ use crate::hearing::hear;
 use crate::running::PortServer;
 use crate::sending::send_one;
 use crate::server::Server;
-use arbiter_server::{Line, OpenGameError};
+use arbiter_server::{DatagramReport, Line, OpenGameError};
 use game_folder::Games;
 use move_msg::{ArbiterId, Count, FetchCount, Message, Stamp};
 use timeline::System;
@@ -33,6 +33,7 @@ fn opened_by(line: Line) -> Result<(), OpenGameError>
 {
     match line {
         Line::Unopened(_, why) => Err(why),
+        Line::Answered(_, DatagramReport::KeeperLost) => Err(OpenGameError::Keeper),
         Line::Answered(_, _)
         | Line::Unread(_)
         | Line::PortLost
@@ -41,7 +42,7 @@ fn opened_by(line: Line) -> Result<(), OpenGameError>
     }
 }
 
-/// Opens the game with this stamp, as for a request for its moves, but nothing is sent. The error says why it isn't open.
+/// Opens the game with this stamp, as for a request for its moves, but nothing is sent. It is open then; the error says why it isn't.
 pub fn open_game<'a, S: System, G: Games<S> + Drop>(
     at: &mut PortServer<'a, G, S::File>,
     system: &S,

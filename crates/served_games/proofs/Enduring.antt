@@ -57,8 +57,8 @@ left_found at stamp past before Fresh h found m = h found m
 left_found at stamp past before (Shut left) h found m = h found m
 left_found at stamp past before (Open now) h found m = inl (h found m)
 
-pub closed_at : {G F : Type 0} (server : Server G F) (k : Option (Seat F)) → k ≡ None → IsAt (option_map (seat_moment server.tables) k) Fresh
-closed_at {F = F} server k none = subst (λ (x : Option (Seat F)). IsAt (option_map (seat_moment server.tables) x) Fresh) (sym none) tt
+pub closed_at : {G F : Type 0} (server : Server G F) (k : Option (Seat F)) → k ≡ None → IsAt (option_map (seat_moment server.shared.tables) k) Fresh
+closed_at {F = F} server k none = subst (λ (x : Option (Seat F)). IsAt (option_map (seat_moment server.shared.tables) x) Fresh) (sym none) tt
 
 module _ {T P F K S L G : Type 0} (o : Outside T P F K S L) (facts : GamesFacts G) (closes : LostAreClosed o facts) (at_once : KeepsAtOnce facts) (place : facts.Place) (stamp : List ℕ) (setup : SetupView) (mine : IsToldAt facts place stamp) where
   abbrev at : KeptAt

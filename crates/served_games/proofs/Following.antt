@@ -89,42 +89,42 @@ some_seat set (Some seat) x is = (seat, refl)
 none_seat : {F : Type 0} (set : Holding) (k : Option (Seat F)) (seat : Seat F) → k ≡ Some seat → option_map (seat_moment set) k ≡ None → ⊥
 none_seat set k seat some none = let f : ◌≡◌ {A = Option (Moment DraftView)} (Some (seat_moment set seat)) None = sym (ap (λ (s : Option (Seat _)). option_map (seat_moment set) s) some) ∙ none in cc
 
-was_told : {G F : Type 0} (facts : GamesFacts G) (stamp : List ℕ) (old : Server G F) (datagram : List ℕ) → AreToldAt facts stamp old → (m : Message) → heard_in datagram ≡ Ok m → WasTold facts (common old) old.games m (was_open old (heard_in datagram))
+was_told : {G F : Type 0} (facts : GamesFacts G) (stamp : List ℕ) (old : Server G F) (datagram : List ℕ) → AreToldAt facts stamp old → (m : Message) → heard_in datagram ≡ Ok m → WasTold facts (common old) old.shared.games m (was_open old (heard_in datagram))
 was_told facts stamp old datagram told m is x was =
-    let s = some_seat old.tables (open_at old (stamp_in m)) x (sym (ap (was_open old) is) ∙ was) in told.each (stamp_in m) s.0 s.1
+    let s = some_seat old.shared.tables (open_at old (stamp_in m)) x (sym (ap (was_open old) is) ∙ was) in told.each (stamp_in m) s.0 s.1
 
 module _ {T P F K S L G : Type 0} (o : Outside T P F K S L) (facts : GamesFacts G) (stamp : List ℕ) where
-  told_there : (old new : Server G F) (other : List ℕ) → facts.place new.games ≡ facts.place old.games → IsToldAt facts (facts.place old.games) other → IsToldAt facts (facts.place new.games) other
+  told_there : (old new : Server G F) (other : List ℕ) → facts.place new.shared.games ≡ facts.place old.shared.games → IsToldAt facts (facts.place old.shared.games) other → IsToldAt facts (facts.place new.shared.games) other
   told_there old new other place h = subst (λ (x : facts.Place). IsToldAt facts x other) (sym place) h
 
-  told_same : (old new : Server G F) → new.seats ≡ old.seats → facts.place new.games ≡ facts.place old.games → AreToldAt facts stamp old → AreToldAt facts stamp new
+  told_same : (old new : Server G F) → new.seats ≡ old.seats → facts.place new.shared.games ≡ facts.place old.shared.games → AreToldAt facts stamp old → AreToldAt facts stamp new
   told_same old new seats place h = record {
     mine = told_there old new stamp place h.mine;
     each = λ other seat is. told_there old new other place (h.each other seat (sym (ap (λ (l : LruCache (List ℕ) (Seat F)). at_stamp l.entries other) seats) ∙ is));
   }
 
   module _ (old new : Server G F) (h : Heard) (d : HearsDatagram o facts old new h.datagram h.reply h.events) (told : AreToldAt facts stamp old) where
-    left_told : (other : List ℕ) (seat : Seat F) → IsLeftOpen (open_at old other) (open_at new other) → open_at new other ≡ Some seat → IsToldAt facts (facts.place new.games) other
+    left_told : (other : List ℕ) (seat : Seat F) → IsLeftOpen (open_at old other) (open_at new other) → open_at new other ≡ Some seat → IsToldAt facts (facts.place new.shared.games) other
     left_told other seat (inl same) is = told_there old new other d.still.place (told.each other seat (sym same ∙ is))
     left_told other seat (inr none) is = absurd (let f : ◌≡◌ {A = Option (Seat F)} None (Some seat) = sym none ∙ is in cc)
 
-    own_told : (m : Message) → heard_in h.datagram ≡ Ok m → (seat : Seat F) → open_at new (stamp_in m) ≡ Some seat → IsToldAt facts (facts.place new.games) (stamp_in m)
-    own_told m is seat some = by (told_by facts (common old) old.games h.datagram m (was_open old (heard_in h.datagram)) h.events d.fate is (was_told facts stamp old h.datagram told m is) d.goes)
+    own_told : (m : Message) → heard_in h.datagram ≡ Ok m → (seat : Seat F) → open_at new (stamp_in m) ≡ Some seat → IsToldAt facts (facts.place new.shared.games) (stamp_in m)
+    own_told m is seat some = by (told_by facts (common old) old.shared.games h.datagram m (was_open old (heard_in h.datagram)) h.events d.fate is (was_told facts stamp old h.datagram told m is) d.goes)
       where
         gone : fate_leaves d.fate ≡ None → IsLeftOpen (fate_leaves d.fate) (game_at new (stamp_in m)) → game_at new (stamp_in m) ≡ None
         gone none (inl same) = same ∙ none
         gone none (inr closed) = closed
 
-        by : (fate_leaves d.fate ≡ None) ⊎ IsToldAt facts (facts.place old.games) (stamp_in m) → IsToldAt facts (facts.place new.games) (stamp_in m)
-        by (inl none) = absurd (none_seat new.tables (open_at new (stamp_in m)) seat some (gone none (subst (λ (r : Result Message MessageFault). IsLeftOpen (fate_leaves d.fate) (was_open new r)) is d.own)))
+        by : (fate_leaves d.fate ≡ None) ⊎ IsToldAt facts (facts.place old.shared.games) (stamp_in m) → IsToldAt facts (facts.place new.shared.games) (stamp_in m)
+        by (inl none) = absurd (none_seat new.shared.tables (open_at new (stamp_in m)) seat some (gone none (subst (λ (r : Result Message MessageFault). IsLeftOpen (fate_leaves d.fate) (was_open new r)) is d.own)))
         by (inr it) = told_there old new (stamp_in m) d.still.place it
 
-    by_told : (r : Result Message MessageFault) → heard_in h.datagram ≡ r → (other : List ℕ) (seat : Seat F) → open_at new other ≡ Some seat → IsToldAt facts (facts.place new.games) other
+    by_told : (r : Result Message MessageFault) → heard_in h.datagram ≡ r → (other : List ℕ) (seat : Seat F) → open_at new other ≡ Some seat → IsToldAt facts (facts.place new.shared.games) other
     by_told (Err fault) is other seat some = left_told other seat (d.others other (subst (IsNotOf other) (sym is) tt)) some
     by_told (Ok m) is other seat some = by_eq (bytes_eq (stamp_in m) other) refl
       where
-        by_eq : (b : Bool) → bytes_eq (stamp_in m) other ≡ b → IsToldAt facts (facts.place new.games) other
-        by_eq true same = let s : stamp_in m ≡ other = same_stamp (stamp_in m) other same in subst (λ (x : List ℕ). open_at new x ≡ Some seat → IsToldAt facts (facts.place new.games) x) s (own_told m is seat) some
+        by_eq : (b : Bool) → bytes_eq (stamp_in m) other ≡ b → IsToldAt facts (facts.place new.shared.games) other
+        by_eq true same = let s : stamp_in m ≡ other = same_stamp (stamp_in m) other same in subst (λ (x : List ℕ). open_at new x ≡ Some seat → IsToldAt facts (facts.place new.shared.games) x) s (own_told m is seat) some
         by_eq false apart = left_told other seat (d.others other (subst (IsNotOf other) (sym is) apart)) some
 
     told_one : AreToldAt facts stamp new
@@ -148,7 +148,7 @@ module _ {T P F K S L G : Type 0} (o : Outside T P F K S L) (facts : GamesFacts 
 
 module _ {T P F K S L G : Type 0} (o : Outside T P F K S L) (facts : GamesFacts G) (closes : LostAreClosed o facts) (at_once : KeepsAtOnce facts) (stamp : List ℕ) (before : PlaceKeeper) where
   abbrev place_of : Server G F → facts.Place
-  place_of server = facts.place server.games
+  place_of server = facts.place server.shared.games
 
   abbrev kept_at : Server G F → KeptAt
   kept_at server = facts.places (place_of server) stamp
@@ -160,11 +160,11 @@ module _ {T P F K S L G : Type 0} (o : Outside T P F K S L) (facts : GamesFacts 
 
   -- what is made of it, whether it came or not
   module _ (old new : Server G F) (h : Heard) (d : HearsDatagram o facts old new h.datagram h.reply h.events) (told : AreToldAt facts stamp old) (life : Life) (isat : IsAt (game_at old stamp) life) (past : List Event) (durable : IsDurableAfter (kept_at old) stamp past h.events) (found : IsFoundIn (kept_at old) stamp past before life) where
-    from_acts : (n : Next facts (common old) old.games stamp life (reply_for stamp h) (made_for stamp h) (game_at new stamp)) → IsFoundIn (kept_at old) stamp (behind past h.events) before (life_through life n.acts) → AreOverLeft (left_before before life) n.acts → FoundOver old life (h ∷ []) new (behind past h.events)
+    from_acts : (n : Next facts (common old) old.shared.games stamp life (reply_for stamp h) (made_for stamp h) (game_at new stamp)) → IsFoundIn (kept_at old) stamp (behind past h.events) before (life_through life n.acts) → AreOverLeft (left_before before life) n.acts → FoundOver old life (h ∷ []) new (behind past h.events)
     unfolding PlaysAll
     from_acts n f over = by_acts facts (place_of old) (common old) stamp before life h (game_at new stamp) (behind past h.events) n.acts n.to (n.to, n.on, refl) n.at n.on.leads over f
 
-    by_for : (n : Next facts (common old) old.games stamp life (reply_for stamp h) (made_for stamp h) (game_at new stamp)) (b : Bool) → is_for stamp h ≡ b → FoundOver old life (h ∷ []) new (behind past h.events)
+    by_for : (n : Next facts (common old) old.shared.games stamp life (reply_for stamp h) (made_for stamp h) (game_at new stamp)) (b : Bool) → is_for stamp h ≡ b → FoundOver old life (h ∷ []) new (behind past h.events)
     by_for n true is =
         let makes : MakesAll facts (place_of old) stamp life n.acts h.events = subst (λ (x : Bool). MakesAll facts (place_of old) stamp life n.acts (cond x h.events [])) is n.on.makes in
         let a = acts_found facts at_once (place_of old) stamp before past h.events life n.acts makes durable found in
@@ -172,7 +172,7 @@ module _ {T P F K S L G : Type 0} (o : Outside T P F K S L) (facts : GamesFacts 
     by_for n false is =
         let makes : MakesAll facts (place_of old) stamp life n.acts [] = subst (λ (x : Bool). MakesAll facts (place_of old) stamp life n.acts (cond x h.events [])) is n.on.makes in
         let a = acts_found facts at_once (place_of old) stamp before past [] life n.acts makes tt found in
-        let stays : StaysFound (kept_at old) stamp past h.events = other_stays facts at_once (common old) old.games stamp told.mine h.datagram (was_open old (heard_in h.datagram)) h.events past d.fate (not_of stamp (heard_in h.datagram) is) (was_told facts stamp old h.datagram told) d.goes in
+        let stays : StaysFound (kept_at old) stamp past h.events = other_stays facts at_once (common old) old.shared.games stamp told.mine h.datagram (was_open old (heard_in h.datagram)) h.events past d.fate (not_of stamp (heard_in h.datagram) is) (was_told facts stamp old h.datagram told) d.goes in
         from_acts n (found_stays (kept_at old) stamp past h.events before (life_through life n.acts) stays a.found) a.over
 
     made_found : FoundOver old life (h ∷ []) new (behind past h.events)
@@ -232,7 +232,7 @@ module _ {T P F K S L G : Type 0} (o : Outside T P F K S L) (facts : GamesFacts 
       let b = behind a ends in
       let c = behind b r.commits in
       let at_end = on_events facts (place_of old) (common old) stamp before life r.heard (game_at is.mid stamp) a ends (asides (kept_at old) stamp a ends (end_aside r.end)) f in
-      let at_commit = on_events facts (place_of old) (common old) stamp before life r.heard (game_at is.mid stamp) b r.commits (at_once.commits (place_of old) is.mid.games s.place stamp (is_done r.committed) r.commits b is.commits.done) at_end in
+      let at_commit = on_events facts (place_of old) (common old) stamp before life r.heard (game_at is.mid stamp) b r.commits (at_once.commits (place_of old) is.mid.shared.games s.place stamp (is_done r.committed) r.commits b is.commits.done) at_end in
       let at_sent = on_events facts (place_of old) (common old) stamp before life r.heard (game_at is.mid stamp) c sends (asides (kept_at old) stamp c sends (round_aside to r.heard r.committed)) at_commit in
       let joined : behind past (round_events to r) ≡ behind c sends = behind_join past (heard ++ ends) (r.commits ++ sends) ∙ ap (λ (l : List Event). behind l (r.commits ++ sends)) (behind_join past heard ends) ∙ behind_join b r.commits sends in
       record {
@@ -272,31 +272,31 @@ module _ {T P F K S L G : Type 0} (o : Outside T P F K S L) (facts : GamesFacts 
 
 module _ {T P F K S L G : Type 0} (o : Outside T P F K S L) (facts : GamesFacts G) (closes : LostAreClosed o facts) (at_once : KeepsAtOnce facts) (stamp : List ℕ) (before : PlaceKeeper) where
   pub work_found : (most : ℕ) (form : LineForm) (texts : List (List ℕ)) (to : List Recipient) (old mid new : Server G F) (turns : List Turn) (heard : List Heard) (life : Life) (past : List Event) → InTurns o facts most form texts old turns mid → HearsAll o facts mid heard new → AreToldAt facts stamp old → IsAt (game_at old stamp) life
-      → IsDurableAfter (facts.places (facts.place old.games) stamp) stamp past (run_events to turns ++ flat_map heard_events heard) → IsFoundIn (facts.places (facts.place old.games) stamp) stamp past before life
-      → FoundGame facts (facts.place old.games) (common old) stamp before life (heard_in_turns turns ++ heard) (game_at new stamp) (behind past (run_events to turns ++ flat_map heard_events heard))
+      → IsDurableAfter (facts.places (facts.place old.shared.games) stamp) stamp past (run_events to turns ++ flat_map heard_events heard) → IsFoundIn (facts.places (facts.place old.shared.games) stamp) stamp past before life
+      → FoundGame facts (facts.place old.shared.games) (common old) stamp before life (heard_in_turns turns ++ heard) (game_at new stamp) (behind past (run_events to turns ++ flat_map heard_events heard))
   work_found most form texts to old mid new turns heard life past p hears told isat durable found =
-      let at = facts.places (facts.place old.games) stamp in
+      let at = facts.places (facts.place old.shared.games) stamp in
       let all = run_events to turns in
       let rest = flat_map heard_events heard in
       let first = turns_found o facts closes at_once stamp before most form texts to old mid turns life past p told isat (durable_first at stamp past all rest durable) found in
       let s = turns_stay o facts closes stamp most form texts old mid turns p in
       let more = all_found o facts closes at_once stamp before mid new first.played.life heard (behind past all) hears (told_turns o facts stamp most form texts old mid turns p told) first.played.at (durable_mid o facts closes at_once stamp before old mid (behind past all) rest s (durable_rest at stamp past all rest durable)) (found_mid o facts closes at_once stamp before old mid (behind past all) first.played.life s first.found) in
-      at_past facts (facts.place old.games) (common old) stamp before life (heard_in_turns turns ++ heard) (game_at new stamp) (behind (behind past all) rest) (behind past (all ++ rest)) (behind_join past all rest)
-      (on_heard facts (facts.place old.games) (common old) stamp before life (heard_in_turns turns) heard (game_at mid stamp) (game_at new stamp) (behind past all) (behind (behind past all) rest) first
+      at_past facts (facts.place old.shared.games) (common old) stamp before life (heard_in_turns turns ++ heard) (game_at new stamp) (behind (behind past all) rest) (behind past (all ++ rest)) (behind_join past all rest)
+      (on_heard facts (facts.place old.shared.games) (common old) stamp before life (heard_in_turns turns) heard (game_at mid stamp) (game_at new stamp) (behind past all) (behind (behind past all) rest) first
       (from_before o facts closes at_once stamp before old mid first.played.life heard (game_at new stamp) (behind (behind past all) rest) s more))
 
   -- what was opened unasked first
   pub record OpenedFound (old begun new : Server G F) (unasked heard : List Heard) (past : List Event) : Type 0 where
-    pub game : OpenedGame facts (facts.place old.games) (common old) stamp unasked (game_at begun stamp) heard
+    pub game : OpenedGame facts (facts.place old.shared.games) (common old) stamp unasked (game_at begun stamp) heard
     pub over : AreOverLeft (Shut before) (acts_in game)
-    pub found : IsFoundIn (facts.places (facts.place old.games) stamp) stamp past before game.life
+    pub found : IsFoundIn (facts.places (facts.place old.shared.games) stamp) stamp past before game.life
 
   pub opened_found : (most : ℕ) (form : LineForm) (texts : List (List ℕ)) (to : List Recipient) (old begun mid new : Server G F) (unasked : List Heard) (asked : List Event) (turns : List Turn) (heard : List Heard) (past : List Event) → HearsAll o facts old unasked begun → InTurns o facts most form texts begun turns mid → HearsAll o facts mid heard new → AreToldAt facts stamp old → IsAt (game_at old stamp) Fresh
-      → StaysFound (facts.places (facts.place old.games) stamp) stamp (behind past (flat_map made_of unasked)) asked
-      → IsDurableAfter (facts.places (facts.place old.games) stamp) stamp past (flat_map made_of unasked ++ (asked ++ (run_events to turns ++ flat_map heard_events heard))) → IsFoundIn (facts.places (facts.place old.games) stamp) stamp past before Fresh
+      → StaysFound (facts.places (facts.place old.shared.games) stamp) stamp (behind past (flat_map made_of unasked)) asked
+      → IsDurableAfter (facts.places (facts.place old.shared.games) stamp) stamp past (flat_map made_of unasked ++ (asked ++ (run_events to turns ++ flat_map heard_events heard))) → IsFoundIn (facts.places (facts.place old.shared.games) stamp) stamp past before Fresh
       → OpenedFound old begun new unasked (heard_in_turns turns ++ heard) (behind past (flat_map made_of unasked ++ (asked ++ (run_events to turns ++ flat_map heard_events heard))))
   opened_found most form texts to old begun mid new unasked asked turns heard past opens p hears told isat asks durable found =
-      let place = facts.place old.games in
+      let place = facts.place old.shared.games in
       let at = facts.places place stamp in
       let opened = flat_map made_of unasked in
       let rest = run_events to turns ++ flat_map heard_events heard in

@@ -35,33 +35,33 @@ module _ {T P F K S L G : Type 0} (o : Outside T P F K S L) (facts : GamesFacts 
 
   module _ (old new : Server G F) (heard : Heard) (h : HearsDatagram o facts old new heard.datagram heard.reply heard.events) (closed : is_lost h.fate ≡ true → was_open new (heard_in heard.datagram) ≡ None) (life : Life) where
     abbrev Goal : List ℕ → Type 0
-    Goal stamp = Next facts (common old) old.games stamp life (reply_for stamp heard) (made_for stamp heard) (game_at new stamp)
+    Goal stamp = Next facts (common old) old.shared.games stamp life (reply_for stamp heard) (made_for stamp heard) (game_at new stamp)
 
     -- it is of another game, or of none
-    left_seen : (was now : Option (Seat F)) → IsLeftOpen was now → IsLeftOpen (seen old.tables was) (seen new.tables now)
-    left_seen was now (inl same) = inl (ap (λ (s : Option (Seat F)). seen new.tables s) same ∙ ap (λ (set : Holding). seen set was) h.tables)
-    left_seen was now (inr none) = inr (ap (λ (s : Option (Seat F)). seen new.tables s) none)
+    left_seen : (was now : Option (Seat F)) → IsLeftOpen was now → IsLeftOpen (seen old.shared.tables was) (seen new.shared.tables now)
+    left_seen was now (inl same) = inl (ap (λ (s : Option (Seat F)). seen new.shared.tables s) same ∙ ap (λ (set : Holding). seen set was) h.tables)
+    left_seen was now (inr none) = inr (ap (λ (s : Option (Seat F)). seen new.shared.tables s) none)
 
     other : (stamp : List ℕ) → is_for stamp heard ≡ false → IsNotOf stamp (heard_in heard.datagram) → IsAt (game_at old stamp) life → Goal stamp
     other stamp is not at =
-        subst (λ (b : Bool). Next facts (common old) old.games stamp life (cond b (reply_to heard ∷ []) []) (cond b heard.events []) (game_at new stamp)) (sym is)
-        (aside facts (common old) old.games stamp life (game_at old stamp) (game_at new stamp) at (left_seen (open_at old stamp) (open_at new stamp) (h.others stamp not)))
+        subst (λ (b : Bool). Next facts (common old) old.shared.games stamp life (cond b (reply_to heard ∷ []) []) (cond b heard.events []) (game_at new stamp)) (sym is)
+        (aside facts (common old) old.shared.games stamp life (game_at old stamp) (game_at new stamp) at (left_seen (open_at old stamp) (open_at new stamp) (h.others stamp not)))
 
     -- it is of this game
     module _ (m : Message) (is : heard_in heard.datagram ≡ Ok m) where
-      reply_is : fate_reply facts (common old) old.games heard.datagram m is h.fate ≡ reply_to heard
+      reply_is : fate_reply facts (common old) old.shared.games heard.datagram m is h.fate ≡ reply_to heard
       reply_is = ap (λ (x : List Message). reply_with heard.datagram x (fate_line h.fate)) (sym h.is.outputs) ∙ ap (λ (x : List ℕ). reply_with heard.datagram heard.reply.outputs.items x) (sym h.is.line)
 
       own : IsAt (game_at old (stamp_in m)) life → Goal (stamp_in m)
       own at =
           let stamp = stamp_in m in
-          let goes : GoesTo facts (common old) old.games heard.datagram (game_at old stamp) heard.events h.fate = subst (λ (r : Result Message MessageFault). GoesTo facts (common old) old.games heard.datagram (was_open old r) heard.events h.fate) is h.goes in
+          let goes : GoesTo facts (common old) old.shared.games heard.datagram (game_at old stamp) heard.events h.fate = subst (λ (r : Result Message MessageFault). GoesTo facts (common old) old.shared.games heard.datagram (was_open old r) heard.events h.fate) is h.goes in
           let left : IsLeftOpen (fate_leaves h.fate) (game_at new stamp) = subst (λ (r : Result Message MessageFault). IsLeftOpen (fate_leaves h.fate) (was_open new r)) is h.own in
           let lost : is_lost h.fate ≡ true → game_at new stamp ≡ None = subst (λ (r : Result Message MessageFault). is_lost h.fate ≡ true → was_open new r ≡ None) is closed in
           let its : is_for stamp heard ≡ true = ap (λ (r : Result Message MessageFault). is_stamp stamp (stamp_by r)) is ∙ itself stamp in
-          let n = fated facts (common old) old.games heard.datagram m is (game_at old stamp) (game_at new stamp) life heard.events at h.fate goes left lost in
-          subst (λ (b : Bool). Next facts (common old) old.games stamp life (cond b (reply_to heard ∷ []) []) (cond b heard.events []) (game_at new stamp)) (sym its)
-          (subst (λ (r : DatagramReply). Next facts (common old) old.games stamp life (r ∷ []) heard.events (game_at new stamp)) reply_is n)
+          let n = fated facts (common old) old.shared.games heard.datagram m is (game_at old stamp) (game_at new stamp) life heard.events at h.fate goes left lost in
+          subst (λ (b : Bool). Next facts (common old) old.shared.games stamp life (cond b (reply_to heard ∷ []) []) (cond b heard.events []) (game_at new stamp)) (sym its)
+          (subst (λ (r : DatagramReply). Next facts (common old) old.shared.games stamp life (r ∷ []) heard.events (game_at new stamp)) reply_is n)
 
       by_stamp : (stamp : List ℕ) (b : Bool) → bytes_eq (stamp_in m) stamp ≡ b → IsAt (game_at old stamp) life → Goal stamp
       by_stamp stamp true same at = let s : stamp_in m ≡ stamp = same_stamp (stamp_in m) stamp same in subst (λ (x : List ℕ). IsAt (game_at old x) life → Goal x) s own at
@@ -79,27 +79,27 @@ module _ {T P F K S L G : Type 0} (o : Outside T P F K S L) (facts : GamesFacts 
   -- what no datagram changes of a server
   pub record StaysServer (old new : Server G F) : Type 0 where
     pub common_is : common new ≡ common old
-    pub place : facts.place new.games ≡ facts.place old.games
+    pub place : facts.place new.shared.games ≡ facts.place old.shared.games
 
-  pub stays_by : (old new : Server G F) → new.config ≡ old.config → new.tables ≡ old.tables → common new ≡ common old
-  stays_by old new config tables = ap (λ (c : _). Rattle.arbiter_server.specs.Games.common_with c new.tables) config ∙ ap (λ (s : Holding). Rattle.arbiter_server.specs.Games.common_with old.config s) tables
+  pub stays_by : (old new : Server G F) → new.shared.config ≡ old.shared.config → new.shared.tables ≡ old.shared.tables → common new ≡ common old
+  stays_by old new config tables = ap (λ (c : _). Rattle.arbiter_server.specs.Games.common_with c new.shared.tables) config ∙ ap (λ (s : Holding). Rattle.arbiter_server.specs.Games.common_with old.shared.config s) tables
 
   pub stays_on : (old mid new : Server G F) → StaysServer old mid → StaysServer mid new → StaysServer old new
   stays_on old mid new p q = record { common_is = q.common_is ∙ p.common_is; place = q.place ∙ p.place }
 
   abbrev Played : Server G F → List ℕ → Life → List Heard → Server G F → Type 0
-  Played old stamp life hs new = PlayedGame facts (facts.place old.games) (common old) stamp life hs (game_at new stamp)
+  Played old stamp life hs new = PlayedGame facts (facts.place old.shared.games) (common old) stamp life hs (game_at new stamp)
 
   module _ (closes : LostAreClosed o facts) (stamp : List ℕ) where
     -- what was played from a server that stayed the same
-    pub before : (old mid : Server G F) (life : Life) (hs : List Heard) (now : Option (Moment DraftView)) → StaysServer old mid → PlayedGame facts (facts.place mid.games) (common mid) stamp life hs now → PlayedGame facts (facts.place old.games) (common old) stamp life hs now
-    before old mid life hs now s p = subst (λ (c : CommonView). PlayedGame facts (facts.place old.games) c stamp life hs now) s.common_is (subst (λ (x : facts.Place). PlayedGame facts x (common mid) stamp life hs now) s.place p)
+    pub before : (old mid : Server G F) (life : Life) (hs : List Heard) (now : Option (Moment DraftView)) → StaysServer old mid → PlayedGame facts (facts.place mid.shared.games) (common mid) stamp life hs now → PlayedGame facts (facts.place old.shared.games) (common old) stamp life hs now
+    before old mid life hs now s p = subst (λ (c : CommonView). PlayedGame facts (facts.place old.shared.games) c stamp life hs now) s.common_is (subst (λ (x : facts.Place). PlayedGame facts x (common mid) stamp life hs now) s.place p)
 
-    more : (old mid new : Server G F) (life : Life) (hs gs : List Heard) (p : Played old stamp life hs mid) → PlayedGame facts (facts.place old.games) (common old) stamp p.life gs (game_at new stamp) → Played old stamp life (hs ++ gs) new
+    more : (old mid new : Server G F) (life : Life) (hs gs : List Heard) (p : Played old stamp life hs mid) → PlayedGame facts (facts.place old.shared.games) (common old) stamp p.life gs (game_at new stamp) → Played old stamp life (hs ++ gs) new
     more old mid new life hs gs p q = record {
       each = p.each ++ q.each;
       life = q.life;
-      plays = plays_join facts (facts.place old.games) (common old) stamp life p.life q.life hs gs p.each q.each p.plays q.plays;
+      plays = plays_join facts (facts.place old.shared.games) (common old) stamp life p.life q.life hs gs p.each q.each p.plays q.plays;
       at = q.at;
     }
 
@@ -134,8 +134,8 @@ module _ {T P F K S L G : Type 0} (o : Outside T P F K S L) (facts : GamesFacts 
       stays : StaysServer old new
       played : Played old stamp life (heard_by deed) new
 
-    pub same_game : (mid new : Server G F) → new.tables ≡ mid.tables → new.seats ≡ mid.seats → game_at new stamp ≡ game_at mid stamp
-    same_game mid new tables seats = ap (λ (set : Holding). option_map (seat_moment set) (open_at new stamp)) tables ∙ ap (λ (l : _). option_map (seat_moment mid.tables) (Rattle.arbiter_server.specs.Room.at_stamp (Rattle.lru.specs.LruCache.LruCache.entries l) stamp)) seats
+    pub same_game : (mid new : Server G F) → new.shared.tables ≡ mid.shared.tables → new.seats ≡ mid.seats → game_at new stamp ≡ game_at mid stamp
+    same_game mid new tables seats = ap (λ (set : Holding). option_map (seat_moment set) (open_at new stamp)) tables ∙ ap (λ (l : _). option_map (seat_moment mid.shared.tables) (Rattle.arbiter_server.specs.Room.at_stamp (Rattle.lru.specs.LruCache.LruCache.entries l) stamp)) seats
 
     deed_played : (most : ℕ) (old new : Server G F) (life : Life) (deed : Deed) → IsDeed o facts most old deed new → IsAt (game_at old stamp) life → DeedPlayed old life deed new
     deed_played most old new life (Answers round) r at =

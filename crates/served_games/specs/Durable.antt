@@ -143,8 +143,8 @@ pub record KeepsAtOnce {G : Type 0} (facts : GamesFacts G) : Type 0 where
 
 -- the game is found there, and so is each game that is open
 pub record AreToldAt {F G : Type 0} (facts : GamesFacts G) (stamp : List ℕ) (server : Server G F) : Type 0 where
-  pub mine : IsToldAt facts (facts.place server.games) stamp
-  pub each : (other : List ℕ) (seat : Seat F) → open_at server other ≡ Some seat → IsToldAt facts (facts.place server.games) other
+  pub mine : IsToldAt facts (facts.place server.shared.games) stamp
+  pub each : (other : List ℕ) (seat : Seat F) → open_at server other ≡ Some seat → IsToldAt facts (facts.place server.shared.games) other
 
 -- Whatever a start may find behind these events is what the game keeps while it is open, or what it left; where it wasn't opened yet, what was
 -- left before.
@@ -170,9 +170,9 @@ abbrev pub GamesAreFound : {T P F K S L G : Type 0} → Outside T P F K S L → 
 GamesAreFound {F} {G} o facts =
     (most : ℕ) (form : LineForm) (texts : List (List ℕ)) (to : List Recipient) (old new : Server G F) (turns : List Turn) (stamp : List ℕ) (before : PlaceKeeper) (was : GameStatus PlaceKeeper) (past : List Event)
     → InTurns o facts most form texts old turns new → AreToldAt facts stamp old → IsAt (game_at old stamp) was
-    → IsDurableAfter (facts.places (facts.place old.games) stamp) stamp past (run_events to turns)
-    → IsFoundIn (facts.places (facts.place old.games) stamp) stamp past before was
-    → FoundGame facts (facts.place old.games) (common old) stamp before was (heard_in_turns turns) (game_at new stamp) (behind past (run_events to turns))
+    → IsDurableAfter (facts.places (facts.place old.shared.games) stamp) stamp past (run_events to turns)
+    → IsFoundIn (facts.places (facts.place old.shared.games) stamp) stamp past before was
+    → FoundGame facts (facts.place old.shared.games) (common old) stamp before was (heard_in_turns turns) (game_at new stamp) (behind past (run_events to turns))
 
 -- ---- all runs
 
@@ -220,7 +220,7 @@ module _ {T P F K S L G : Type 0} (o : Outside T P F K S L) (facts : GamesFacts 
   -- A run at this place, behind what happened before it. Its server begins with no game open. Premise: the game that is found under the stamp
   -- is this one; and before and between these, and when it stopped, nothing else happened to the game's record.
   pub record IsServedRun (past : List Event) (r : ServedRun G F) : Type 0 where
-    pub there : facts.place r.old.games ≡ place
+    pub there : facts.place r.old.shared.games ≡ place
     pub closed : (other : List ℕ) → open_at r.old other ≡ None
     pub one : (game : GameConfig) (events : List Event) → facts.finds place stamp (Ok game) events → setup_of (common r.old) game.name.items game.start game.delay ≡ setup
     pub most : ℕ

@@ -33,7 +33,7 @@ use Rattle.served_games.specs.PlaceKeepers.{Follows, PlaceKeeper, has_failed, ha
 
 -- where a game is open at a server: its arbiter and its draft
 abbrev pub game_at : {G F : Type 0} → Server G F → List ℕ → Option (Moment DraftView)
-game_at server stamp = option_map (seat_moment server.tables) (open_at server stamp)
+game_at server stamp = option_map (seat_moment server.shared.tables) (open_at server stamp)
 
 -- an arbiter of the game runs, over a record that was kept, of which nothing is to be put
 pub record IsOpenAt (at : Moment DraftView) (now : Moment PlaceKeeper) : Type 0 where
@@ -206,7 +206,7 @@ module _ {T P F K S L G : Type 0} (o : Outside T P F K S L) (facts : GamesFacts 
   GamesArePlayed =
       (most : ℕ) (form : LineForm) (texts : List (List ℕ)) (old new : Server G F) (turns : List Turn) (stamp : List ℕ) (was : GameStatus PlaceKeeper)
       → InTurns o facts most form texts old turns new → IsAt (game_at old stamp) was
-      → PlayedGame facts (facts.place old.games) (common old) stamp was (heard_in_turns turns) (game_at new stamp)
+      → PlayedGame facts (facts.place old.shared.games) (common old) stamp was (heard_in_turns turns) (game_at new stamp)
 
 -- all acts in turn
 abbrev pub all_acts : List (List (Action PlaceKeeper)) → List (Action PlaceKeeper)

@@ -12,8 +12,8 @@ use Rattle.timeline.specs.Outsides.{Adds, AddsSome, Outside, SendsToSame}
 use Rattle.game_folder.specs.Holdings.{GamesFacts}
 use Rattle.game_server.specs.Datagrams.{HearsDatagram}
 use Rattle.game_server.specs.Printing.{KnowsLines, LineForm, TextEnd, WritesLines, after_lines, form_in, is_out, text_events, written_text}
-use Rattle.game_server.specs.Rounds.{Heard, HearsAll, IsFull, ReceiveFails, RoundEnd, end_events, heard_events, withheld_line}
-use Rattle.game_server.specs.Runs.{IsTurn, Turn, came_in, deed_lines, ends_run, turn_events}
+use Rattle.game_server.specs.Rounds.{Heard, HearsAll, ReceiveFails, RoundEnd, TakesUpTo, end_events, heard_events, withheld_line}
+use Rattle.game_server.specs.Runs.{IsTurn, IsWithin, Turn, came_in, deed_lines, ends_run, turn_events}
 use Rattle.game_server.specs.Inside.HeldReplies.{RepliesView}
 use Rattle.game_server.specs.Seats.{IsNewServer}
 use Rattle.game_server.specs.Sending.{AllSpelled, address, sent}
@@ -87,9 +87,9 @@ AreHeld [] (x ∷ held) = ⊥
 AreHeld (h ∷ heard) [] = ⊥
 AreHeld (h ∷ heard) (x ∷ held) = (h.reply ≡ x.reply) × (h.from ≡ x.sender) × AreHeld heard held
 
--- some came: there is at least one, and there are at most so many, and as many as that end it; or none did, since a receive failed
+-- some came, for which there was room; or none did, since a receive failed
 abbrev pub IsGathered : Bool → ℕ → List Heard → RoundEnd → Type 0
-IsGathered true most heard end = (0 < length heard) × (length heard ≤ most) × (length heard ≡ most → end ≡ IsFull)
+IsGathered true most heard end = (0 < length heard) × TakesUpTo most heard end
 IsGathered false most heard end = (heard ≡ []) × (end ≡ ReceiveFails)
 
 pub record Gathers {T P F K S L G : Type 0} (o : Outside T P F K S L) (facts : GamesFacts G) (most : ℕ) (old new : Server G F) (held : List Held) (came : Bool) (events : List Event) : Type 0 where
@@ -129,8 +129,8 @@ IsAfter t (Err fault) = t.is_out ≡ false
 
 pub record TakesTurn {T P F K S L G : Type 0} (o : Outside T P F K S L) (facts : GamesFacts G) (before : List (List ℕ)) (most : ℕ) (old new : PortServer G F) (port : P) (t t' : T) (result : Result AfterRound WriteFault) : Type 0 where
   pub turn : Turn
-  pub is : IsTurn o facts old.replies.most (form_in old.lines) before old.server turn new.server
-  pub few : came_in turn.deed ≤ most
+  pub is : IsTurn o facts (form_in old.lines) before old.server turn new.server
+  pub within : IsWithin most turn.deed
   pub goes : IsAfter turn result
   pub happens : Adds o t t' (turn_events (o.port port).to turn)
   pub after : result ≡ Ok (GoesOn (came_in turn.deed)) → KnowsLines new.lines (after_lines before (deed_lines turn.deed))

@@ -55,7 +55,7 @@ returns-in-Ok-None-clause-gathers g c =
     record {
       made = gathered o (g.G.Games.facts c.args.system.now) c.args.most c.args.server.now c.loop-buffer.server c.loop-buffer.replies.held c.args.timeline.now c.loop-buffer.timeline c.receive_next.new.timeline inv.has NoMore
           (rw c.in-Ok-None.field-0-is at c.in-Ok-None.ensures.made) (some_held (length c.loop-buffer.replies.held) (sym c.is_empty.ensures ∙ waits)) inv.few
-          (λ whole. absurd (let w : length c.loop-buffer.replies.held ≡ c.args.most = whole in omega (arith, w, len, test)));
+          (λ whole. absurd (let w : length c.loop-buffer.replies.held ≡ c.args.most = whole in omega (arith, w, len, test))) (λ is. absurd (let f : NoMore ≡ IsFull = is in cc));
       same = same_then _ _ _ inv.same c.receive_next.ensures.same;
       most_is = inv.most;
     }
@@ -80,9 +80,10 @@ returns-clause-gathers g c =
     let test = c.loop-buffer-test.false in
     let len = c.len.ensures in
     let some = c.requires.some in
+    let few = inv.few in
     record {
       made = gathered o (g.G.Games.facts c.args.system.now) c.args.most c.args.server.now c.loop-buffer.server c.loop-buffer.replies.held c.args.timeline.now c.loop-buffer.timeline c.loop-buffer.timeline inv.has IsFull
-          (adds_none o c.loop-buffer.timeline) (omega (arith, len, test, some)) inv.few (λ whole. refl);
+          (adds_none o c.loop-buffer.timeline) (omega (arith, len, test, some)) inv.few (λ whole. refl) (λ is. omega (arith, len, test, few));
       same = inv.same;
       most_is = inv.most;
     }

@@ -9,7 +9,7 @@ abbrev pub invariant-loop-left : goal.invariant-loop-left
 invariant-loop-left g l = record {
   count : ℕ;
   of : count + l.left ≡ l.fn.n;
-  served : HasServed (g.S.System.outside l.system) (g.G.Games.facts l.system) l.fn.at.replies.most (form_in l.fn.at.lines) ((g.S.System.outside l.system).port l.fn.port).to l.fn.at.server l.at.server l.fn.at.lines l.at.lines l.fn.timeline l.timeline count;
+  served : HasServed (g.S.System.outside l.system) (g.G.Games.facts l.system) l.fn.at.replies.most l.fn.n (form_in l.fn.at.lines) ((g.S.System.outside l.system).port l.fn.port).to l.fn.at.server l.at.server l.fn.at.lines l.at.lines l.fn.timeline l.timeline count;
   most : l.at.replies.most ≡ l.fn.at.replies.most;
   same : SendsToSame ((g.S.System.outside l.system).port l.fn.port) ((g.S.System.outside l.system).port l.port);
   seats : AreSeats (g.S.System.outside l.system) (g.G.Games.facts l.system) l.at.server;

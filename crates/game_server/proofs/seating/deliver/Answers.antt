@@ -5,6 +5,7 @@ use Rattle.arbiter_core.specs.Delivers.{exchange, in_game, moment}
 use Rattle.arbiter_core.specs.Resting.{awake}
 use Rattle.arbiter_server.specs.ServedLines.{heard_words, refused_keeper}
 use Rattle.arbiter_server.specs.Told.{stamped}
+use Rattle.arbiter_server.specs.declared.line.Line.TheVariants as line
 use Rattle.move_msg.specs.Messages.{stamp_in}
 use Rattle.move_msg.specs.declared.message.Message.{Message}
 use Rattle.timeline.proofs.EventLaws.{adds_none}
@@ -24,7 +25,7 @@ pub returns-in-Ok-keep : goal.returns-in-Ok-keep
 returns-in-Ok-keep g c =
     let o = g.S.System.outside c.args.system.now in
     let facts = (g.G.Games.facts c.args.system.now) in
-    let old = c.args.server.now in
+    let old = c.args.shared.now in
     let seat = c.args.seat.now in
     let stamp = stamp_in c.args.message.now in
     let outputs = c.in-Ok.outputs.items in
@@ -40,7 +41,7 @@ returns-in-Ok-keep g c =
         h.0,
         h.1,
         record {
-          same = record { config = refl; tables = c.deliver.ensures.same; seats = refl };
+          same = record { config = refl; tables = c.deliver.ensures.same };
           still = k.still;
           noted = k.noted;
           told = Ok outputs;
@@ -49,8 +50,8 @@ returns-in-Ok-keep g c =
           answers = record { answers = c.in-Ok.ensures.answers; kept = subst (λ (s : List ℕ). KeepsAnswer facts (facts.place old.games) s (Ok outputs) draft.to_put true h.0) of (keeps_answer facts _ seat.kept.stamp outputs draft.to_put h.0 (kept_if_any o facts _ _ _ _ _ h.0 k)) };
           left = ap (moment (awake c.deliver.new.self old.tables)) k.draft;
           reply = λ datagram. let f = fate_kept stamp (exchange datagram (Ok outputs) after) (put_if_any draft.to_put outputs) in
-              record { outputs = sym f.0; line = ap₂ stamped c.stamp-stamp.ensures (ap₂ heard_words c.count.ensures.is c.verdict.ensures) ∙ sym f.1 };
-          closed = λ lost. absurd (false≢true (sym (put_if_any draft.to_put outputs) ∙ lost));
+              record { outputs = sym f.0; line = ap₂ stamped c.stamp-stamp.ensures (ap₂ heard_words c.count.ensures.is c.verdict.ensures) ∙ sym f.1; told = (_, ap (λ (s : List ℕ). line.Answered s _) c.stamp-stamp.ensures, λ lost. absurd (false≢true (sym (put_if_any draft.to_put outputs) ∙ lost))) };
+          closed = sym (put_if_any draft.to_put outputs);
           seated = λ yes. is_seat o facts old.games c.keep.new.self old.tables stamp seat seat' (Ok outputs) draft c.requires a k.draft c.in-Ok.ensures.keeps k.of k.within c.in-Ok.ensures.wakes;
           backed = λ before knew. are_backed o facts old.games c.keep.new.self old.tables stamp seat seat' (Ok outputs) draft c.requires a k.draft c.in-Ok.ensures.keeps k.still.place k.noted before h.0
               (λ bytes some. subst (λ (s : List ℕ). known facts c.keep.new.self h.0 s bytes) of (kept_known o facts _ _ _ _ _ h.0 k bytes some)) knew outputs refl;
@@ -64,7 +65,7 @@ pub returns-in-Err-keep : goal.returns-in-Err-keep
 returns-in-Err-keep g c =
     let o = g.S.System.outside c.args.system.now in
     let facts = (g.G.Games.facts c.args.system.now) in
-    let old = c.args.server.now in
+    let old = c.args.shared.now in
     let stamp = stamp_in c.args.message.now in
     let outputs = c.in-Ok.outputs.items in
     let draft = c.deliver.new.keeper in
@@ -78,7 +79,7 @@ returns-in-Err-keep g c =
         h.0,
         h.1,
         record {
-          same = record { config = refl; tables = c.deliver.ensures.same; seats = refl };
+          same = record { config = refl; tables = c.deliver.ensures.same };
           still = k.still;
           noted = k.noted;
           told = Ok outputs;
@@ -87,11 +88,11 @@ returns-in-Err-keep g c =
           answers = record { answers = c.in-Ok.ensures.answers; kept = subst (λ (s : List ℕ). KeepsAnswer facts (facts.place old.games) s (Ok outputs) draft.to_put false h.0) of (keeps_lost facts _ c.args.seat.now.kept.stamp outputs draft.to_put h.0 lost.0 lost.1 lost.2) };
           left = ap (moment (awake c.deliver.new.self old.tables)) k.draft;
           reply = λ datagram. let f = fate_lost stamp (exchange datagram (Ok outputs) after) (ap (λ (p : Option (List ℕ)). is_unput p false (Ok outputs)) lost.1) in
-              record { outputs = c.line_alone.ensures.outputs ∙ sym f.0; line = ap line_words c.line_alone.ensures.line ∙ (ap (λ (s : List ℕ). stamped s refused_keeper) c.stamp-stamp.ensures ∙ sym f.1) };
-          closed = λ gone. refl;
-          seated = λ yes. absurd (false≢true yes);
+              record { outputs = c.line_alone.ensures.outputs ∙ sym f.0; line = ap line_words c.line_alone.ensures.line ∙ (ap (λ (s : List ℕ). stamped s refused_keeper) c.stamp-stamp.ensures ∙ sym f.1); told = (_, c.line_alone.ensures.line ∙ ap (λ (s : List ℕ). line.Answered s _) c.stamp-stamp.ensures, λ gone. refl) };
+          closed = sym (ap (λ (p : Option (List ℕ)). is_unput p false (Ok outputs)) lost.1);
+          seated = λ no. absurd (false≢true (sym no));
           backed = λ before knew. subst (λ (ms : List Message). AreBacked facts c.keep.new.self (before ++ h.0) ms) (sym c.line_alone.ensures.outputs) tt;
-          knows = λ before knew yes. absurd (false≢true yes);
+          knows = λ before knew no. absurd (false≢true (sym no));
         },
       );
     }
@@ -100,7 +101,7 @@ pub returns-in-Err : goal.returns-in-Err
 returns-in-Err g c =
     let o = g.S.System.outside c.args.system.now in
     let facts = (g.G.Games.facts c.args.system.now) in
-    let old = c.args.server.now in
+    let old = c.args.shared.now in
     let seat = c.args.seat.now in
     let stamp = stamp_in c.args.message.now in
     let draft = c.deliver.new.keeper in
@@ -114,7 +115,7 @@ returns-in-Err g c =
         [],
         adds_none o c.args.timeline.now,
         record {
-          same = record { config = refl; tables = c.deliver.ensures.same; seats = refl };
+          same = record { config = refl; tables = c.deliver.ensures.same };
           still = quiet_nothing facts old.games;
           noted = λ stamp bytes n. n;
           told = Err c.in-Err.fault;
@@ -122,8 +123,8 @@ returns-in-Err g c =
           is_kept = true;
           answers = record { answers = c.in-Err.ensures.answers; kept = refl };
           left = ap (moment (awake c.deliver.new.self old.tables)) (clean_draft draft clean);
-          reply = λ datagram. record { outputs = out; line = ap line_words c.line_alone-in-Err.ensures.line ∙ ap₂ stamped c.stamp-stamp.ensures c.refused.ensures };
-          closed = λ lost. absurd (false≢true lost);
+          reply = λ datagram. record { outputs = out; line = ap line_words c.line_alone-in-Err.ensures.line ∙ ap₂ stamped c.stamp-stamp.ensures c.refused.ensures; told = (_, c.line_alone-in-Err.ensures.line ∙ ap (λ (s : List ℕ). line.Answered s _) c.stamp-stamp.ensures, λ lost. absurd (false≢true lost)) };
+          closed = refl;
           seated = λ yes. is_seat o facts old.games old.games old.tables stamp seat seat' (Err c.in-Err.fault) draft c.requires a (clean_draft draft clean) c.in-Err.ensures.keeps refl
               (subst (λ (s : List ℕ). IsKeptIn o (facts.places (facts.place old.games) s) seat.kept.file) (sym c.requires.of) c.requires.within) c.in-Err.ensures.wakes;
           backed = λ before knew. subst (λ (ms : List Message). AreBacked facts old.games (before ++ []) ms) (sym out) tt;

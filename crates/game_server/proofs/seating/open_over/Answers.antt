@@ -5,7 +5,7 @@ use Rattle.arbiter_core.specs.Resting.{awake}
 use Rattle.game_folder.specs.Drafts.{DraftView}
 use Rattle.game_server.specs.Fates.{SeatOpened, SeatRefused, SeatUnkept}
 use Rattle.game_folder.specs.Holdings.{IsKeptIn}
-use Rattle.game_server.specs.Seats.{common}
+use Rattle.game_server.specs.Seats.{common_in}
 use Rattle.game_server.proofs.Openings.{begun, is_opening}
 use Rattle.game_server.proofs.SeatLaws.{begun_known, kept_if_any, kept_known, opened_its, quiet_nothing, unkept_some}
 use Rattle.timeline.proofs.EventLaws.{adds_none}
@@ -15,7 +15,7 @@ pub returns-in-Ok-keep : goal.returns-in-Ok-keep
 returns-in-Ok-keep g c =
     let o = g.S.System.outside c.args.system.now in
     let facts = (g.G.Games.facts c.args.system.now) in
-    let old = c.args.server.now in
+    let old = c.args.shared.now in
     let h = c.in-Ok-keep.ensures.made in
     let k = h.2 in
     let after = c.open.new.keeper in
@@ -26,13 +26,13 @@ returns-in-Ok-keep g c =
         h.0,
         h.1,
         record {
-          same = record { config = refl; tables = c.open.ensures.same; seats = refl };
+          same = record { config = refl; tables = c.open.ensures.same };
           still = k.still;
           noted = k.noted;
           opens = SeatOpened after v opening (kept_if_any o facts _ _ _ _ _ h.0 k) (ap (λ (d : DraftView). Ok (moment v d)) k.draft);
           ok = record {
             of = k.of;
-            its = opened_its (common old) c.args.kept.stamp c.args.game.name.items c.args.game.start c.args.game.delay _ _ v c.requires.game opening;
+            its = opened_its (common_in old) c.args.kept.stamp c.args.game.name.items c.args.game.start c.args.game.delay _ _ v c.requires.game opening;
             clean = ap (λ (d : DraftView). d.to_put) k.draft;
             within = subst (λ s. IsKeptIn o (facts.places (facts.place c.keep.new.self) s) c.keep.new.game.file) k.of k.within;
             wakes = c.in-Ok.ensures.wakes;
@@ -50,7 +50,7 @@ pub returns-in-Ok : goal.returns-in-Ok
 returns-in-Ok g c =
     let o = g.S.System.outside c.args.system.now in
     let facts = (g.G.Games.facts c.args.system.now) in
-    let old = c.args.server.now in
+    let old = c.args.shared.now in
     let h = c.in-Err-keep.ensures.made in
     let k = h.2 in
     let after = c.open.new.keeper in
@@ -62,7 +62,7 @@ returns-in-Ok g c =
         h.0,
         h.1,
         record {
-          same = record { config = refl; tables = c.open.ensures.same; seats = refl };
+          same = record { config = refl; tables = c.open.ensures.same };
           still = k.still;
           noted = k.noted;
           opens = SeatUnkept after v lost.0 opening lost.1 lost.2 refl;
@@ -81,7 +81,7 @@ returns g c =
         _,
         adds_none o c.args.timeline.now,
         record {
-          same = record { config = refl; tables = c.open.ensures.same; seats = refl };
+          same = record { config = refl; tables = c.open.ensures.same };
           still = quiet_nothing _ _;
           noted = λ stamp bytes noted. noted;
           opens = SeatRefused c.open.new.keeper c.in-Err.refused.fault opening refl (ap Err c.unopened.ensures);
