@@ -53,10 +53,10 @@ module _ {T P F K S L : Type 0} (o : Outside T P F K S L) (h : HostGames) where
   -- a text went out, or that failed
   pub after_text : (a b c : T) (text : List ℕ) (Rest : Doing) (x : Unit {0}) (r : Result ℕ WriteFault) → AddsSome o a b (Performs (GoesOut text) (Ok x)) → AddsSome o b c (PerformsOutliving h Rest r) → AddsSome o a c (PerformsOutliving h (AfterText text Rest) r)
   after_text a b c text Rest x r p q =
-      then_outlives a b c p.0 Rest (AfterText text Rest) r (λ events status d. ThenRest events d (ap (λ (l : List Event). l ++ events) p.2.0)) (subst ReceivesNothing (sym p.2.0) (refl, refl, tt)) p.1 q
+      then_outlives a b c p.0 Rest (AfterText text Rest) r (λ events status d. ThenRest events d (ap (λ (l : List Event). l ++ events) p.2.0)) (subst ReceivesNothing (sym p.2.0) (refl, (refl, tt))) p.1 q
 
   pub text_lost : (a b : T) (text : List ℕ) (Rest : Doing) (fault : WriteFault) → AddsSome o a b (Performs (GoesOut text) (Err fault)) → AddsSome o a b (PerformsOutliving h (AfterText text Rest) (Err fault))
-  text_lost a b text Rest fault p = (p.0, p.1, ((p.2.0, None, TextFirst p.2.2.0 refl, p.2.3), λ outlives. cut_quiet p.2.0 p.0 (subst ReceivesNothing (sym p.2.2.0) (refl, refl, tt)) p.2.3))
+  text_lost a b text Rest fault p = (p.0, p.1, ((p.2.0, None, TextFirst p.2.2.0 refl, p.2.3), λ outlives. cut_quiet p.2.0 p.0 (subst ReceivesNothing (sym p.2.2.0) (refl, (refl, tt))) p.2.3))
 
   -- what doesn't fail, and what does for a log that isn't outlived
   pub done_outlives : (a b : T) (Does : Doing) (r : Result ℕ WriteFault) → IsOk r → AddsSome o a b (Performs Does r) → AddsSome o a b (PerformsOutliving h Does r)

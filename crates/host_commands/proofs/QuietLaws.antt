@@ -43,8 +43,8 @@ front_quiet (e ∷ x) y p = (p.0, front_quiet x y p.1)
 none_quiet : (events : List Event) → events ≡ [] → ReceivesNothing events
 none_quiet events is = subst ReceivesNothing (sym is) tt
 
-one_quiet : (e : Event) (events : List Event) → is_receive e ≡ false → events ≡ e ∷ [] → ReceivesNothing events
-one_quiet e events quiet is = subst ReceivesNothing (sym is) (quiet, tt)
+one_quiet : (e : Event) (events : List Event) → events ≡ e ∷ [] → is_receive e ≡ false → ReceivesNothing events
+one_quiet e events is quiet = subst ReceivesNothing (sym is) (quiet, tt)
 
 then_quiet : (x y events : List Event) → ReceivesNothing x → ReceivesNothing y → events ≡ x ++ y → ReceivesNothing events
 then_quiet x y events p q is = subst ReceivesNothing (sym is) (both_quiet x y p q)
@@ -58,15 +58,15 @@ printed_quiet (line ∷ lines) = (refl, printed_quiet lines)
 -- a front of events
 pub cut_quiet : (all events : List Event) → ReceivesNothing all → IsCutIn all events → ReceivesNothing events
 cut_quiet all events quiet (AtWrite before bytes after wanted count written) =
-    then_quiet before (Wrote Output (take count bytes) ∷ Refused Output ∷ []) events (front_quiet before _ (subst ReceivesNothing wanted quiet)) (refl, refl, tt) written
+    then_quiet before (Wrote Output (take count bytes) ∷ Refused Output ∷ []) events (front_quiet before _ (subst ReceivesNothing wanted quiet)) (refl, (refl, tt)) written
 cut_quiet all events quiet (AtFlush before after wanted left) = then_quiet before (Refused Output ∷ []) events (front_quiet before _ (subst ReceivesNothing wanted quiet)) (refl, tt) left
 
 pub note_quiet : (line : List ℕ) (events : List Event) → MayNote line events → ReceivesNothing events
-note_quiet line events (IsNoted is) = one_quiet _ events refl is
+note_quiet line events (IsNoted is) = one_quiet _ events is refl
 note_quiet line events (NotNoted none) = none_quiet events none
 
-noting_quiet : (first : Event) (line : List ℕ) (events : List Event) → is_receive first ≡ false → ThenMayNote first line events → ReceivesNothing events
-noting_quiet first line events quiet n = subst ReceivesNothing (sym n.all) (quiet, note_quiet line n.noting n.notes)
+noting_quiet : (first : Event) (line : List ℕ) (events : List Event) → ThenMayNote first line events → is_receive first ≡ false → ReceivesNothing events
+noting_quiet first line events n quiet = subst ReceivesNothing (sym n.all) (quiet, note_quiet line n.noting n.notes)
 
 -- ---- steps
 
@@ -76,28 +76,28 @@ IsQuietStep {A} First = (r : Result A (List ℕ)) (events : List Event) → Firs
 
 module _ {T P F K S L : Type 0} (o : Outside T P F K S L) where
   pub bind_quiet : (address to : List ℕ) → IsQuietStep (BindsPort o address to)
-  bind_quiet address to r events (IsBound port at told is) = one_quiet _ events refl is
-  bind_quiet address to r events (Unbound why told notes) = noting_quiet _ _ events refl notes
-  bind_quiet address to r events (NoRoomToBind why told is) = one_quiet _ events refl is
+  bind_quiet address to r events (IsBound port at told is) = one_quiet _ events is refl
+  bind_quiet address to r events (Unbound why told notes) = noting_quiet _ _ events notes refl
+  bind_quiet address to r events (NoRoomToBind why told is) = one_quiet _ events is refl
   bind_quiet address to r events (NoRoomForAddresses many told none) = none_quiet events none
 
   pub lock_quiet : (path : List ℕ) → IsQuietStep (LocksFile o path)
-  lock_quiet path r events (IsLocked held gives at told is) = one_quiet _ events refl is
-  lock_quiet path r events (InUse bars told notes) = noting_quiet _ _ events refl notes
-  lock_quiet path r events (NoLock bars told is) = one_quiet _ events refl is
-  lock_quiet path r events (NoRoomToLock bars told is) = one_quiet _ events refl is
+  lock_quiet path r events (IsLocked held gives at told is) = one_quiet _ events is refl
+  lock_quiet path r events (InUse bars told notes) = noting_quiet _ _ events notes refl
+  lock_quiet path r events (NoLock bars told is) = one_quiet _ events is refl
+  lock_quiet path r events (NoRoomToLock bars told is) = one_quiet _ events is refl
   lock_quiet path r events (NoRoomForPath told none) = none_quiet events none
 
   pub listing_quiet : (folder : List ℕ) (form : StoreForm) → IsQuietStep (ListsGames o.disk folder form)
-  listing_quiet folder form r events (IsListed names has clear told) = one_quiet _ events refl has.is
-  listing_quiet folder form r events (IsBarred what bars told) = noting_quiet _ _ events refl bars.notes
-  listing_quiet folder form r events (IsNotListed fault lacks told) = one_quiet _ events refl lacks.is
+  listing_quiet folder form r events (IsListed names has clear told) = one_quiet _ events has.is refl
+  listing_quiet folder form r events (IsBarred what bars told) = noting_quiet _ _ events bars.notes refl
+  listing_quiet folder form r events (IsNotListed fault lacks told) = one_quiet _ events lacks.is refl
 
   -- ---- the store
 
   store_quiet : (path : List ℕ) → IsQuietStep (OpensStore o path)
-  store_quiet path r events (StoreIs store at told is) = one_quiet _ events refl is
-  store_quiet path r events (StoreIsNot why refuses told is) = one_quiet _ events refl is
+  store_quiet path r events (StoreIs store at told is) = one_quiet _ events is refl
+  store_quiet path r events (StoreIsNot why refuses told is) = one_quiet _ events is refl
   store_quiet path r events (NoRoomForStore told none) = none_quiet events none
 
   file_look_quiet : (path : List ℕ) (kept : Kept) → ReceivesNothing (file_events path kept)
@@ -110,9 +110,9 @@ module _ {T P F K S L : Type 0} (o : Outside T P F K S L) where
   looks_quiet store folder (look ∷ looks) = both_quiet (look_events store folder look) (all_look_events store folder looks) (refl, file_look_quiet _ look.kept) (looks_quiet store folder looks)
 
   failing_quiet : (folder : List ℕ) (store : S) (stamp words : List ℕ) (events : List Event) → FailsToLook o folder store stamp words events → ReceivesNothing events
-  failing_quiet folder store stamp words events (FileUnread why cause told is) = subst ReceivesNothing (sym is) (refl, refl, tt)
-  failing_quiet folder store stamp words events (NoRoomToRead bytes told is) = subst ReceivesNothing (sym is) (refl, refl, tt)
-  failing_quiet folder store stamp words events (NoRoomForFile told is) = one_quiet _ events refl is
+  failing_quiet folder store stamp words events (FileUnread why cause told is) = subst ReceivesNothing (sym is) (refl, (refl, tt))
+  failing_quiet folder store stamp words events (NoRoomToRead bytes told is) = subst ReceivesNothing (sym is) (refl, (refl, tt))
+  failing_quiet folder store stamp words events (NoRoomForFile told is) = one_quiet _ events is refl
 
   looking_quiet : (folder : List ℕ) (store : S) (stamps : List (List ℕ)) → IsQuietStep (LooksAtAll o folder store stamps)
   looking_quiet folder store stamps r events (AllSeen looks are of told is) = subst ReceivesNothing (sym is) (looks_quiet _ folder looks)
@@ -121,8 +121,8 @@ module _ {T P F K S L : Type 0} (o : Outside T P F K S L) where
 
   putting_quiet : (old : S) (entries : List Entry) → IsQuietStep (PutsComing o old entries)
   putting_quiet old entries r events (NoneComes empty told none) = none_quiet events none
-  putting_quiet old entries r events (AllPut new has told is) = one_quiet _ events refl is
-  putting_quiet old entries r events (NonePut words why told is) = one_quiet _ events refl is
+  putting_quiet old entries r events (AllPut new has told is) = one_quiet _ events is refl
+  putting_quiet old entries r events (NonePut words why told is) = one_quiet _ events is refl
 
   looks_first_quiet : (folder : List ℕ) (old : S) (seen : Result (List Look) (List ℕ)) (events : List Event) → ListsAndLooks o folder old seen events → ReceivesNothing events
   looks_first_quiet folder old seen events l = subst ReceivesNothing (sym l.all) (refl, looking_quiet folder old l.stamps seen l.looking l.looks)
@@ -131,14 +131,14 @@ module _ {T P F K S L : Type 0} (o : Outside T P F K S L) where
   looks_and_puts_quiet folder old seen put events l = then_quiet l.before l.putting events (looks_first_quiet folder old (Ok seen) l.before l.looks) (putting_quiet old _ put l.putting l.puts) l.all
 
   importing_quiet : (folder : List ℕ) (old : S) → IsQuietStep (ImportsRecords o folder old)
-  importing_quiet folder old r events (FolderIsNot fault lacks told) = one_quiet _ events refl lacks.is
-  importing_quiet folder old r events (NoRoomForStamps names has told) = one_quiet _ events refl has.is
+  importing_quiet folder old r events (FolderIsNot fault lacks told) = one_quiet _ events lacks.is refl
+  importing_quiet folder old r events (NoRoomForStamps names has told) = one_quiet _ events has.is refl
   importing_quiet folder old r events (OneUnseen words l told) = looks_first_quiet folder old (Err words) events l
   importing_quiet folder old r events (NotPut seen words l told) = looks_and_puts_quiet folder old seen (Err words) events l
   importing_quiet folder old r events (AllImported seen new l told) = looks_and_puts_quiet folder old seen (Ok new) events l
 
   left_quiet : (path : List ℕ) (events : List Event) → NotesLeft path events → ReceivesNothing events
-  left_quiet path events (LeftNoted line of is) = one_quiet _ events refl is
+  left_quiet path events (LeftNoted line of is) = one_quiet _ events is refl
   left_quiet path events (LeftNotNoted none) = none_quiet events none
 
   all_left_quiet : (folder : List ℕ) (stamps : List (List ℕ)) (events : List Event) → NotesAllLeft folder stamps events → ReceivesNothing events
@@ -167,8 +167,8 @@ gives_quiet : {A : Type 0} (a : A) → IsQuietReading (Gives a)
 gives_quiet a r events p = none_quiet events p.1
 
 file_quiet : (path : List ℕ) (Holds : List ℕ → Type 0) (Fails : Type 0) → IsQuietReading (ReadsFile path Holds Fails)
-file_quiet path Holds Fails r events (FileIs bytes holds told is) = one_quiet _ events refl is
-file_quiet path Holds Fails r events (FileIsNot fault why told is) = one_quiet _ events refl is
+file_quiet path Holds Fails r events (FileIs bytes holds told is) = one_quiet _ events is refl
+file_quiet path Holds Fails r events (FileIsNot fault why told is) = one_quiet _ events is refl
 
 lines_quiet : (text : List ℕ) → IsQuietReading (ReadsLines text)
 lines_quiet text r events (LinesAre manifest told tells is gives) = gives_quiet manifest r events gives
@@ -180,11 +180,11 @@ manifest_quiet disk (Some path) r events p = readings_quiet (ReadsText disk path
 
 table_note_quiet : (folder : List ℕ) (names : List (List ℕ)) (events : List Event) → tables.MayNote folder names events → ReceivesNothing events
 table_note_quiet folder names events (tables.NotNoted none) = none_quiet events none
-table_note_quiet folder names events (tables.IsNoted no_table is) = one_quiet _ events refl is
+table_note_quiet folder names events (tables.IsNoted no_table is) = one_quiet _ events is refl
 
 tables_listed_quiet : (disk : DiskFacts) (folder : List ℕ) (manifest : Manifest) → IsQuietReading (tables.ListsTables disk folder manifest)
 tables_listed_quiet disk folder manifest r events (tables.Listed names wanted note lists notes are is told) = subst ReceivesNothing (sym is) (refl, table_note_quiet folder names note notes)
-tables_listed_quiet disk folder manifest r events (tables.NotListed fault why is told) = one_quiet _ events refl is
+tables_listed_quiet disk folder manifest r events (tables.NotListed fault why is told) = one_quiet _ events is refl
 tables_listed_quiet disk folder manifest r events (tables.ListedTwice names note lists notes fault why is told) = subst ReceivesNothing (sym is) (refl, table_note_quiet folder names note notes)
 
 files_read_quiet : (folder : List ℕ) (files : List File) → ReceivesNothing (map (tables.table_read folder) files)
@@ -192,8 +192,8 @@ files_read_quiet folder [] = tt
 files_read_quiet folder (f ∷ files) = (refl, files_read_quiet folder files)
 
 table_quiet : (disk : DiskFacts) (folder name : List ℕ) → IsQuietReading (tables.ReadsTable disk folder name)
-table_quiet disk folder name r events (tables.IsRead f named at is told) = one_quiet _ events refl is
-table_quiet disk folder name r events (tables.NotRead fault why is told) = one_quiet _ events refl is
+table_quiet disk folder name r events (tables.IsRead f named at is told) = one_quiet _ events is refl
+table_quiet disk folder name r events (tables.NotRead fault why is told) = one_quiet _ events is refl
 table_quiet disk folder name r events (tables.NoPath none told) = none_quiet events none
 
 tables_quiet : (disk : DiskFacts) (folder : List ℕ) (names : List (List ℕ)) → IsQuietReading (tables.ReadsTables disk folder names)
@@ -211,8 +211,8 @@ wanted_quiet disk None manifest r events p = gives_quiet [] r events p
 wanted_quiet disk (Some folder) manifest r events p = folder_quiet disk folder manifest r events p
 
 all_input_quiet : (input : InputFacts) → IsQuietReading (ReadsAllInput input)
-all_input_quiet input r events (InputIs bytes gives short told is) = one_quiet _ events refl is
-all_input_quiet input r events (InputIsNot fault why memory told is) = one_quiet _ events refl is
+all_input_quiet input r events (InputIs bytes gives short told is) = one_quiet _ events is refl
+all_input_quiet input r events (InputIsNot fault why memory told is) = one_quiet _ events is refl
 
 input_quiet : (input : InputFacts) (is_wanted : Bool) → IsQuietReading (ReadsInput input is_wanted)
 input_quiet input false r events p = gives_quiet [] r events p

@@ -69,7 +69,7 @@ module _ {T P F K S L G : Type 0} (o : Outside T P F K S L) (facts : GamesFacts 
     abbrev pub AnswersWith : LogForm → Server G F → Doing
     AnswersWith form server = AnswersAll o facts most h.datagrams to (OfGames form) server
 
-    -- a line can't be written, that is noted, and so many more datagrams are answered without lines
+    -- a line can't be written, which is noted, and so many more datagrams are answered without lines
     pub record OutlivesLog (server : Server G F) (events : List Event) (status : Option ℕ) : Type 0 where
       pub mid : Server G F
       pub first : List Event

@@ -113,7 +113,7 @@ module _ {T P F K S L : Type 0} (o : Outside T P F K S L) (folder : List ℕ) (s
   abbrev pub sought_and_read : Result (List ℕ) ReadFault → List Event
   sought_and_read bytes = sought_none ∷ FileRead (kept_path folder stamp) bytes ∷ []
 
-  -- the file of its record can't be read, or has more bytes than a record's, where it is unreadable
+  -- it is unreadable only where the file of its record can't be read, or has more bytes than a record's
   abbrev pub HasCause : ReadFault → Type 0
   HasCause why = why ≡ read.Unreadable → o.disk.fails (AtFile (kept_path folder stamp)) ⊎ HasMore o.disk (kept_path folder stamp) most_kept
 

@@ -20,7 +20,7 @@ use Rattle.host_commands.specs.declared.arriving.Seen.TheVariants as seen
 use Rattle.host_commands.specs.declared.importing.Arrivals.{Arrivals}
 
 module _ {T P F K S L : Type 0} (o : Outside T P F K S L) (path : List ℕ) where
-  -- it can't be read, or has more bytes than a record's, where it is unreadable
+  -- it is unreadable only where it can't be read, or has more bytes than a record's
   abbrev pub HasCauseAt : ReadFault → Type 0
   HasCauseAt why = why ≡ read.Unreadable → o.disk.fails (AtFile path) ⊎ HasMore o.disk path most_kept
 
