@@ -42,8 +42,8 @@ fn unread(fault: RecordFault) -> Result<Option<Entry>, ImportFault>
     }
 }
 
-/// Puts an item behind others. The error comes only where memory is refused.
-pub fn add_item<T: Drop>(items: &mut Vec<T>, item: T) -> Result<(), ImportFault>
+/// Puts an item behind others.
+fn add<T: Drop>(items: &mut Vec<T>, item: T) -> Result<(), ImportFault>
     ensures ok { OnOk result (items.new.items ≡ items.old.items ++ item ∷ []) }
     ensures err { IfErr result (λ why. why ≡ ImportFault.OutOfMemory) }
 {
@@ -53,9 +53,8 @@ pub fn add_item<T: Drop>(items: &mut Vec<T>, item: T) -> Result<(), ImportFault>
     }
 }
 
-/// The bytes of a file as the record of the game with this stamp. None where they are no record of it. The error comes only where memory is
-/// refused.
-pub fn entry_of(alloc: Global, stamp: Stamp, record: Vec<u8>) -> Result<Option<Entry>, ImportFault>
+/// The bytes of a file as the record of the game with this stamp. None where they are no record of it.
+fn entry_of(alloc: Global, stamp: Stamp, record: Vec<u8>) -> Result<Option<Entry>, ImportFault>
     ensures ok { IfOk result (λ found. MatchOption found (IsNoRecordOf stamp record.items) (IsEntryOf stamp record.items)) }
     ensures err { IfErr result (λ fault. fault ≡ ImportFault.OutOfMemory) }
 {
@@ -109,9 +108,9 @@ fn add_one<D: Disk>(
         Err(fault) => return Err(fault),
     };
     if let Some(entry) = found {
-        return add_item(&mut coming.entries, entry);
+        return add(&mut coming.entries, entry);
     }
-    add_item(&mut coming.left, stamp)
+    add(&mut coming.left, stamp)
 }
 
 /// What the files of these stamps hold, of those that the store has no record of.

@@ -1,15 +1,44 @@
 //! The record in the file of a game, which may go over into a store.
 
+ghost use Rattle.std.specs.Prelude.{◌≡◌, ◌≢◌, None, IfErr, IfOk, MatchOption};
+ghost use Rattle.game_status.specs.Imports.{IsEntryOf, IsNoRecordOf};
 ghost use Rattle.host_commands.specs.Inside.Importing.{ReadsInFolder, ReadsRecord, SeesGame};
 ghost use Rattle.timeline.specs.Outsides.{AddsSome};
 
 use answer_parts::Refusal;
 use arbiter_server::kept_path;
-use game_status::entry_of;
-use move_msg::Stamp;
-use std::alloc::Global;
+use move_msg::{Record, RecordFault, Stamp};
+use std::alloc::{AllocError, Global};
 use system_io::{Entry, MOST_KEPT_BYTES, ReadFault};
 use timeline::System;
+
+/// What comes of bytes that aren't decoded, where that isn't for want of memory: no record.
+fn undecoded(fault: RecordFault) -> Result<Option<Entry>, AllocError>
+    ensures ok { IfOk result (λ found. (found ≡ None) × (fault ≢ RecordFault.OutOfMemory)) }
+{
+    match fault {
+        RecordFault::OutOfMemory => Err(AllocError),
+        RecordFault::BadLength | RecordFault::BadHead | RecordFault::BadField => Ok(None),
+    }
+}
+
+/// The bytes of a file as the record of the game with this stamp. None where they are no record of it.
+fn entry_of(alloc: Global, stamp: Stamp, record: Vec<u8>) -> Result<Option<Entry>, AllocError>
+    ensures { IfOk result (λ found. MatchOption found (IsNoRecordOf stamp record.items) (IsEntryOf stamp record.items)) }
+{
+    let read = match Record::decode(alloc, &record) {
+        Ok(read) => read,
+        Err(fault) => return undecoded(fault),
+    };
+    if read.stamp != stamp {
+        return Ok(None);
+    }
+    Ok(Some(Entry {
+        stamp: *stamp.as_bytes(),
+        count: read.moves.as_slice().len() as u32,
+        record,
+    }))
+}
 
 /// The record at a path, as it stands there. None where the file holds no record of the game with this stamp.
 fn record_at<S: System>(

@@ -1,6 +1,6 @@
 //! Records that go over from their files into the store of their folder.
 
-ghost use Rattle.std.specs.Prelude.{map, string_bytes, IfOk, OnOk};
+ghost use Rattle.std.specs.Prelude.{◌≡◌, ◌++◌, ◌∷◌, [], map, string_bytes, IfOk, OnOk};
 ghost use Rattle.host_commands.specs.Imports.{AreListed};
 ghost use Rattle.host_commands.specs.Inside.Importing.{AddsSeen, ImportsIn, ListsKept, LooksAtThese, PutsIn};
 ghost use Rattle.system_io.specs.Records.{IsSettled};
@@ -8,7 +8,7 @@ ghost use Rattle.timeline.specs.Outsides.{AddsSome};
 
 use crate::arriving::{Seen, look_at};
 use answer_parts::Refusal;
-use game_status::{ImportFault, add_item, add_stamps, rising};
+use game_status::{add_stamps, rising};
 use move_msg::Stamp;
 use std::alloc::{AllocError, Global};
 use std::collections::BTreeSet;
@@ -50,14 +50,24 @@ fn list_kept<S: System>(
     }
 }
 
+/// Puts an item behind others. The error comes only where memory is refused.
+fn add<T: Drop>(items: &mut Vec<T>, item: T) -> Result<(), AllocError>
+    ensures { OnOk result (items.new.items ≡ items.old.items ++ item ∷ []) }
+{
+    match items.push(item) {
+        Ok(()) => Ok(()),
+        Err(_) => Err(AllocError),
+    }
+}
+
 /// Adds what is found of one more game. The error comes only where memory is refused.
-fn add_seen(coming: &mut Arrivals, stamp: Stamp, seen: Seen) -> Result<(), ImportFault>
+fn add_seen(coming: &mut Arrivals, stamp: Stamp, seen: Seen) -> Result<(), AllocError>
     ensures { OnOk result (AddsSeen stamp seen coming.old.entries.items coming.old.left.items coming.new.entries.items coming.new.left.items) }
 {
     match seen {
         Seen::InStore => Ok(()),
-        Seen::InFile(entry) => add_item(&mut coming.entries, entry),
-        Seen::InNeither => add_item(&mut coming.left, stamp),
+        Seen::InFile(entry) => add(&mut coming.entries, entry),
+        Seen::InNeither => add(&mut coming.left, stamp),
     }
 }
 

@@ -18,8 +18,8 @@ found_so disk folder stamp r found was is same h = subst (IsFound disk folder st
 
 pub returns-in-Some-clause-ok : goal.returns-in-Some-clause-ok
 returns-in-Some-clause-ok g c =
-    onward c.add_item.result (λ more. Comes c.in-Some.entry (found_so (g.D.Disk.facts c.args.disk.now) c.args.folder.now c.args.stamp c.record_in.result c.in-Ok.found (Some c.in-Some.entry) c.in-Ok.is c.in-Some.is c.record_in.ensures.ok) more refl) c.add_item.ensures.ok
+    onward c.add.result (λ more. Comes c.in-Some.entry (found_so (g.D.Disk.facts c.args.disk.now) c.args.folder.now c.args.stamp c.record_in.result c.in-Ok.found (Some c.in-Some.entry) c.in-Ok.is c.in-Some.is c.record_in.ensures.ok) more refl) c.add.ensures.ok
 
 pub returns-clause-ok : goal.returns-clause-ok
 returns-clause-ok g c =
-    onward c.add_item-2.result (λ more. IsLeft (found_so (g.D.Disk.facts c.args.disk.now) c.args.folder.now c.args.stamp c.record_in.result c.in-Ok.found None c.in-Ok.is c.in_default.is c.record_in.ensures.ok) refl more) c.add_item-2.ensures.ok
+    onward c.add-2.result (λ more. IsLeft (found_so (g.D.Disk.facts c.args.disk.now) c.args.folder.now c.args.stamp c.record_in.result c.in-Ok.found None c.in-Ok.is c.in_default.is c.record_in.ensures.ok) refl more) c.add-2.ensures.ok
