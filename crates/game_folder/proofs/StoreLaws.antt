@@ -17,7 +17,7 @@ use Rattle.system_io.specs.declared.record_store.Entry.{Entry}
 use Rattle.timeline.specs.Events.{Committed, Event, RecordSought, stamped}
 use Rattle.timeline.specs.Outsides.{Outside}
 use Rattle.game_folder.specs.Drafts.{settled}
-use Rattle.game_folder.specs.Holdings.{CommitsGames, IsKeptIn, IsTaken, KeepsGame, SendsNothing, StaysNoted, TakesGame, kept_of, known}
+use Rattle.game_folder.specs.Holdings.{CommitsGames, IsKeptIn, IsTaken, KeepsGame, SendsNothing, StaysNoted, TakesGame, kept_of, known, without_value}
 use Rattle.game_folder.specs.Places.{InFile, InStore, WasKept}
 use Rattle.game_folder.specs.StoreGames.{CommitsNoted, CouldNot, HadNoRoom, HasAll, HadNone, IsInStore, HasNoted, LacksMemory, LooksUpRecord, LosesStore, MayGive, Notes, StoredGames, TakesFromStore, WasNoted, WasRefused, WasSought, its_bytes, given_record, kept_bytes, last_noted, loss_told, store_games_facts}
 use Rattle.game_folder.specs.declared.games.KeptGame.{KeptGame}

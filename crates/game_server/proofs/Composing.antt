@@ -1,24 +1,22 @@
 -- A game is looked for, its record is taken, and it is opened over that.
-use Rattle.std.proofs.Common.{◌≡◌, ◌⊎◌, inl, inr, ◌++◌, ◌∷◌, [], ◌∙◌, ℕ, Bool, true, false, List, Option, Some, None, refl, sym, ap, subst}
-use Rattle.std.specs.Prelude.{Result, Ok, Err, IfOk}
+use Rattle.std.proofs.Common.{◌≡◌, inl, inr, ◌++◌, [], ℕ, true, false, List, refl, sym, ap, subst}
+use Rattle.std.specs.Prelude.{Result, Ok, Err}
 use Rattle.std.proofs.lemmas.Result.{IfOk-weaker}
-use Rattle.arbiter_core.specs.Delivers.{Moment}
 use Rattle.arbiter_server.specs.Acts.{opens_game}
-use Rattle.arbiter_server.specs.Games.{IsGameOf, setup_of}
+use Rattle.arbiter_server.specs.Games.{setup_of}
 use Rattle.arbiter_server.specs.declared.fault.OpenGameError.{OpenGameError}
 use Rattle.arbiter_server.specs.declared.fault.OpenGameError.TheVariants as unopened
 use Rattle.arbiter_server.specs.declared.games.GameConfig.{GameConfig}
 use Rattle.move_msg.specs.Messages.{stamp_in}
 use Rattle.move_msg.specs.declared.message.Message.{Message}
 use Rattle.timeline.specs.Events.{Event}
-use Rattle.timeline.specs.Outsides.{Adds, AddsSome, Outside}
+use Rattle.timeline.specs.Outsides.{AddsSome, Outside}
 use Rattle.timeline.proofs.EventLaws.{adds_more, adds_none}
 use Rattle.game_folder.specs.Drafts.{DraftView}
-use Rattle.game_server.specs.Fates.{IsFound, IsOther, NotFound, OpensFor, OpensNone, OpensSeat, TakesAndOpens, TakesNone, TakesOne}
-use Rattle.game_folder.specs.Holdings.{GamesFacts, IsQuiet, StaysNoted, TakesGame}
-use Rattle.game_server.specs.Fates.{found_draft}
-use Rattle.game_server.specs.Seats.{IsKnownSeat, IsSeat, SameCommon, common_in}
-use Rattle.game_server.specs.Inside.Seating.{IsKnownThen, KnowsSeat, LooksUp, OpensForMessage, OpensOverKept, OpensTaken, seated_as}
+use Rattle.game_server.specs.Fates.{IsFound, IsOther, NotFound, OpensNone, OpensSeat, TakesNone, TakesOne}
+use Rattle.game_folder.specs.Holdings.{GamesFacts, TakesGame}
+use Rattle.game_server.specs.Seats.{common_in}
+use Rattle.game_server.specs.Inside.Seating.{IsKnownThen, LooksUp, OpensForMessage, OpensOverKept, OpensTaken, seated_as}
 use Rattle.game_folder.specs.declared.games.KeptGame.{KeptGame}
 use Rattle.game_server.specs.declared.seat.Seat.{Seat}
 use Rattle.game_server.specs.declared.server.Shared.{Shared}

@@ -75,11 +75,11 @@ module _ {T P F K S L G : Type 0} (o : Outside T P F K S L) (facts : GamesFacts 
   -- behind a game that was brought all can answer
   pub brought_seats : (mid : Server G F) (events : List Event) → Brings o facts old mid m (Ok tt) events → AreSeats o facts mid
   brought_seats mid events b = seats_now o facts old mid (stamp_in m) b.same.tables b.still.place b.noted b.is.others seats
-      (subst (λ (k : Option (Seat F)). IfSome k (IsSeat o facts mid.shared.games mid.shared.tables (stamp_in m))) (sym b.is.open)
+      (subst (λ (k : Option (Seat F)). IfSome k (IsSeat o facts mid.shared.games mid.shared.tables (stamp_in m))) (sym b.is.there)
       (subst (λ (set : Holding). IsSeat o facts mid.shared.games set (stamp_in m) b.is.seat) (sym b.same.tables) b.is.seated))
 
   pub brought_open : (mid : Server G F) (events : List Event) → Brings o facts old mid m (Ok tt) events → IsSome (open_at mid (stamp_in m))
-  brought_open mid events b = subst (λ (k : Option (Seat F)). IsSome k) (sym b.is.open) tt
+  brought_open mid events b = subst (λ (k : Option (Seat F)). IsSome k) (sym b.is.there) refl
 
   -- its game answered
   module _ (mid new : Server G F) (reply : Reply) (first rest : List Event) (b : Brings o facts old mid m (Ok tt) first) (a : AnswersFrom o facts mid new m reply rest) where
@@ -97,7 +97,7 @@ module _ {T P F K S L G : Type 0} (o : Outside T P F K S L) (facts : GamesFacts 
 
     -- the game that answers is the one that was brought
     one_seat : b.is.seat ≡ a.seat
-    one_seat = let x = b.is.open in let y = a.open in cc
+    one_seat = let x = b.is.there in let y = a.there in cc
 
     abbrev left : Moment DraftView
     left = moment a.after.arbiter (settled a.after.keeper)
@@ -217,7 +217,7 @@ said_open {F = F} {G = G} o facts old new m datagram reply events is h = by h.fa
 
     some_there : (k : Option (Seat F)) (at : Moment DraftView) → option_map (seat_moment new.shared.tables) k ≡ Some at → IsSome k
     some_there None at e = absurd cc
-    some_there (Some seat) at e = tt
+    some_there (Some seat) at e = refl
 
     on_line : (l : Line) (r : Result (Unit {0}) OpenGameError) → opened_by l ≡ r → OnOk r (IsSome (open_at new (stamp_in m))) → OnOk (opened_by l) (IsSome (open_at new (stamp_in m)))
     on_line l r e p = subst (λ (x : Result (Unit {0}) OpenGameError). OnOk x (IsSome (open_at new (stamp_in m)))) (sym e) p

@@ -1,12 +1,11 @@
 -- A game that is open answers a message.
-use Rattle.std.proofs.Common.{◌≡◌, ◌⊎◌, inl, inr, ◌++◌, ◌∷◌, [], ◌∙◌, ℕ, Bool, true, false, cond, List, Option, Some, None, refl, sym, ap, subst, append-nil}
-use Rattle.std.specs.Prelude.{Result, Ok, Err}
+use Rattle.std.proofs.Common.{◌≡◌, ◌++◌, ◌∷◌, [], ◌∙◌, ℕ, Bool, true, false, cond, List, Option, Some, None, refl, sym, ap, subst}
+use Rattle.std.specs.Prelude.{Ok}
 use Rattle.std.specs.List.{AllByRecursion}
-use Rattle.arbiter_core.specs.Delivers.{Exchange, IsKept, Moment, Told, exchange, moment}
+use Rattle.arbiter_core.specs.Delivers.{Exchange, IsKept, Told, moment}
 use Rattle.arbiter_core.specs.Recording.{Recorded}
-use Rattle.arbiter_core.specs.Resting.{CanWake, Rest, awake}
+use Rattle.arbiter_core.specs.Resting.{CanWake, awake}
 use Rattle.arbiter_core.specs.Views.{View}
-use Rattle.arbiter_core.specs.declared.fault.DeliverFault.{DeliverFault}
 use Rattle.arbiter_server.specs.ServedLines.{refused_keeper}
 use Rattle.arbiter_server.specs.Serving.{line_of, outputs_of}
 use Rattle.arbiter_server.specs.Told.{stamped}
@@ -23,7 +22,7 @@ use Rattle.game_folder.specs.Places.{Held}
 use Rattle.game_server.specs.Seats.{IsKnownSeat, IsSeat}
 use Rattle.game_server.specs.Replies.{AreBacked}
 use Rattle.game_server.specs.declared.seat.Seat.{Seat}
-use Rattle.game_server.proofs.Announcing.{Announces, IsDrafted}
+use Rattle.game_server.proofs.Announcing.{Announces}
 use Rattle.game_server.proofs.Backing.{HoldsRecord, backed}
 use Rattle.game_server.proofs.Saying.{AllSay}
 use Rattle.game_server.proofs.SeatLaws.{drafted_known}

@@ -1,10 +1,7 @@
 -- A game that is opened among many, and answers.
-use Rattle.std.proofs.Common.{◌≡◌, ◌⊎◌, inl, inr, ◌++◌, ◌∷◌, [], ◌∙◌, ℕ, Bool, true, false, cond, List, Option, Some, None, refl, sym, ap, subst, append-nil}
-use Rattle.std.specs.Prelude.{Result, Ok, Err, IfOk, IsOk, OnOk}
-use Rattle.std.specs.List.{AllByRecursion}
+use Rattle.std.proofs.Common.{◌≡◌, inl, inr, ◌++◌, [], ◌∙◌, ℕ, true, false, List, Option, Some, None, refl, sym, ap, subst}
+use Rattle.std.specs.Prelude.{Result, Ok, Err, IsOk}
 use Rattle.arbiter_core.specs.Answering.{Identity}
-use Rattle.arbiter_core.specs.Delivers.{IsKept, IsSpelled, Moment, Told, moment}
-use Rattle.arbiter_core.specs.Keeping.{KeeperFacts}
 use Rattle.arbiter_core.specs.Opens.{FirstLands, IsOpening, Opens, OpensOver, first_record, running}
 use Rattle.arbiter_core.specs.Setups.{IsIdentity, SetupView, rules_at}
 use Rattle.arbiter_core.specs.Views.{View}
@@ -15,14 +12,14 @@ use Rattle.arbiter_server.specs.Games.{CommonView, IsGameOf, setup_of}
 use Rattle.board_core.specs.declared.parts.Parts.{Parts}
 use Rattle.move_msg.specs.declared.message.Message.{Message}
 use Rattle.timeline.specs.Events.{Event}
-use Rattle.game_folder.specs.Drafts.{DraftView, draft_facts, settled}
+use Rattle.game_folder.specs.Drafts.{DraftView, draft_facts}
 use Rattle.timeline.specs.Outsides.{Outside}
 use Rattle.game_server.specs.Fates.{KeptIfAny, found_draft, is_unput}
 use Rattle.game_folder.specs.Holdings.{GamesFacts, IsKnown, IsQuiet, KeepsGame, StaysNoted, known}
 use Rattle.game_folder.specs.declared.games.KeptGame.{KeptGame}
 use Rattle.game_server.proofs.Announcing.{IsDrafted}
 use Rattle.game_server.proofs.Knowing.{known_after, known_on, quiet_join}
-use Rattle.game_server.proofs.Openings.{IsBegun, begun}
+use Rattle.game_server.proofs.Openings.{IsBegun}
 
 err_not_ok : {A E : Type 0} (r : Result A E) (e : E) → IsOk r → r ≡ Err e → ⊥
 err_not_ok (Ok x) e h is = cc

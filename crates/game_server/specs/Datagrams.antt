@@ -1,5 +1,5 @@
 -- One datagram at a server of many games (this project's own).
-use Rattle.std.specs.Prelude.{◌≡◌, ◌⊎◌, ◌++◌, ◌-◌, ℕ, true, false, cond, List, ◌∷◌, take, Option, Some, None, Result, Ok, Err, option_map}
+use Rattle.std.specs.Prelude.{◌≡◌, ◌⊎◌, ◌++◌, ◌-◌, ℕ, false, cond, List, ◌∷◌, take, Option, None, Result, Ok, Err, option_map}
 use Rattle.std.specs.Str.{bytes_eq}
 use Rattle.arbiter_core.specs.Delivers.{Moment}
 use Rattle.move_msg.specs.Heard.{heard_in}
@@ -10,7 +10,7 @@ use Rattle.timeline.specs.Events.{Event}
 use Rattle.timeline.specs.Outsides.{Outside}
 use Rattle.game_folder.specs.Drafts.{DraftView}
 use Rattle.game_server.specs.Fates.{Answered, Fate, GoesTo, Unopened, Unread, fate_leaves, is_lost_at}
-use Rattle.game_folder.specs.Holdings.{GamesFacts, IsQuiet, StaysNoted, known}
+use Rattle.game_folder.specs.Holdings.{GamesFacts, IsQuiet, StaysNoted}
 use Rattle.game_server.specs.Seats.{AreKnown, AreSeats, common, in_use, open_at, room, seat_moment, without}
 use Rattle.game_server.specs.declared.seat.Reply.{Reply}
 use Rattle.game_server.specs.declared.server.Server.{Server}

@@ -1,7 +1,5 @@
 -- What becomes of a datagram at a server of many games (this project's own).
-use Rattle.std.specs.Prelude.{◌≡◌, ◌⊎◌, ◌++◌, ℕ, Bool, true, false, List, [], ◌∷◌, cond, codes, Option, Some, None, Result, Ok, Err}
-use Rattle.std.specs.List.{AllByRecursion}
-use Rattle.std.specs.Str.{bytes_eq}
+use Rattle.std.specs.Prelude.{◌≡◌, ◌++◌, ℕ, Bool, true, false, List, [], cond, codes, Option, Some, None, Result, Ok, Err}
 use Rattle.arbiter_core.specs.Delivers.{Exchange, Moment, ReturnsAnswer, Told, answer_to_any, exchange, moment}
 use Rattle.arbiter_core.specs.Opens.{IsOpening}
 use Rattle.arbiter_core.specs.Setups.{SetupView}

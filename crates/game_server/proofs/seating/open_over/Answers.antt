@@ -1,4 +1,4 @@
-use Rattle.std.proofs.Common.{List, ℕ, Option, ap, refl, subst, sym, ◌∙◌}
+use Rattle.std.proofs.Common.{ap, refl, subst, sym, ◌∙◌}
 use Rattle.std.specs.Prelude.{Ok, Err}
 use Rattle.arbiter_core.specs.Delivers.{IsKept, moment}
 use Rattle.arbiter_core.specs.Resting.{awake}
