@@ -34,9 +34,8 @@ module _ {T P F K S L G : Type 0} (o : Outside T P F K S L) (facts : GamesFacts 
     same = record { config = over.same.config; tables = over.same.tables };
     still = quiet_then facts old.games g new.games first rest takes.still over.still;
     noted = noted_then facts old.games g new.games takes.noted over.noted;
-    opens = TakesOne first rest kept.draft.kept takes.taken
-        (subst (λ (d : DraftView). OpensSeat facts (facts.place old.games) kept.stamp (setup_of (common_in old) game.name.items game.start game.delay) d rest (seated_as old.tables result)) (clean_draft kept.draft takes.ok.clean)
-        (subst (λ (p : facts.Place). OpensSeat facts p kept.stamp (setup_of (common_in old) game.name.items game.start game.delay) kept.draft rest (seated_as old.tables result)) takes.still.place over.opens)) refl;
+    opens = TakesOne first rest kept.draft.kept g takes.taken
+        (subst (λ (d : DraftView). OpensSeat facts g kept.stamp (setup_of (common_in old) game.name.items game.start game.delay) d rest (seated_as old.tables result) new.games) (clean_draft kept.draft takes.ok.clean) over.opens) refl;
     ok = over.ok;
     knows = IfOk-weaker result _ _ (λ seat knows. knows first takes.ok.known) over.knows;
   }
@@ -88,8 +87,8 @@ module _ {T P F K S L G : Type 0} (o : Outside T P F K S L) (facts : GamesFacts 
           still = record { quiet = p.2.quiet; place = refl };
           noted = λ stamp bytes n. n;
           opens = elim p.2.is [
-            | inl lacks ↦ NotFound why opens lacks refl
-            | inr other ↦ IsOther other.0 opens other.1 other.2 (ap Err other.3)
+            | inl lacks ↦ NotFound why opens lacks refl refl
+            | inr other ↦ IsOther other.0 opens other.1 other.2 refl (ap Err other.3)
           ];
           ok = tt;
           knows = tt;
@@ -102,5 +101,5 @@ module _ {T P F K S L G : Type 0} (o : Outside T P F K S L) (facts : GamesFacts 
       (subst (λ (n : Shared G). AddsSome o a a (OpensForMessage o facts old n m (Err unopened.NotOpen))) (sym same) (
         [],
         adds_none o a,
-        record { same = record { config = refl; tables = refl }; still = quiet_nothing facts old.games; noted = λ stamp bytes n. n; opens = OpensNone none refl refl; ok = tt; knows = tt },
+        record { same = record { config = refl; tables = refl }; still = quiet_nothing facts old.games; noted = λ stamp bytes n. n; opens = OpensNone none refl refl refl; ok = tt; knows = tt },
       ))

@@ -45,13 +45,13 @@ all_backed held stamp r (m ∷ ms) h says = (backed held stamp r m h says.0, all
 
 -- ---- what is kept
 
-pub keeps_answer : {G : Type 0} (facts : GamesFacts G) (place : facts.Place) (stamp : List ℕ) (outputs : List Message) (to_put : Option (List ℕ)) (events : List Event) → KeptIfAny facts place stamp to_put events → KeepsAnswer facts place stamp (Ok outputs) to_put true events
-keeps_answer facts place stamp outputs None events h = h
-keeps_answer facts place stamp outputs (Some bytes) events h = h
+pub keeps_answer : {G : Type 0} (facts : GamesFacts G) (old new : G) (stamp : List ℕ) (outputs : List Message) (to_put : Option (List ℕ)) (events : List Event) → KeptIfAny facts old stamp to_put events new → KeepsAnswer facts old stamp (Ok outputs) to_put true events new
+keeps_answer facts old new stamp outputs None events h = h
+keeps_answer facts old new stamp outputs (Some bytes) events h = h
 
-pub keeps_lost : {G : Type 0} (facts : GamesFacts G) (place : facts.Place) (stamp : List ℕ) (outputs : List Message) (to_put : Option (List ℕ)) (events : List Event) (bytes : List ℕ) → to_put ≡ Some bytes → facts.keeps place stamp bytes false events → KeepsAnswer facts place stamp (Ok outputs) to_put false events
-keeps_lost facts place stamp outputs None events bytes is h = absurd cc
-keeps_lost facts place stamp outputs (Some other) events bytes is h = let same : bytes ≡ other = cc in subst (λ (b : List ℕ). facts.keeps place stamp b false events) same h
+pub keeps_lost : {G : Type 0} (facts : GamesFacts G) (old new : G) (stamp : List ℕ) (outputs : List Message) (to_put : Option (List ℕ)) (events : List Event) (bytes : List ℕ) → to_put ≡ Some bytes → facts.keeps old stamp bytes false events new → KeepsAnswer facts old stamp (Ok outputs) to_put false events new
+keeps_lost facts old new stamp outputs None events bytes is h = absurd cc
+keeps_lost facts old new stamp outputs (Some other) events bytes is h = let same : bytes ≡ other = cc in subst (λ (b : List ℕ). facts.keeps old stamp b false events new) same h
 
 -- ---- what is told
 

@@ -42,20 +42,20 @@ none_there (Some x) is = absurd (let f : true ≡ false = is in cc)
 -- ---- a game was opened, and memory was refused to keep it open
 
 module _ {G : Type 0} (facts : GamesFacts G) where
-  seat_not_held : {place : facts.Place} {stamp : List ℕ} {setup : _} {draft : DraftView} {events : List Event} {at : Moment DraftView} → OpensSeat facts place stamp setup draft events (Ok at) → OpensSeat facts place stamp setup draft events (Err unopened.OutOfMemory)
-  seat_not_held {at = at} (SeatRefused after fault h none told) = absurd (let f : ◌≡◌ {A = Result (Moment DraftView) OpenGameError} (Ok at) (Err _) = told in cc)
+  seat_not_held : {old new : G} {stamp : List ℕ} {setup : _} {draft : DraftView} {events : List Event} {at : Moment DraftView} → OpensSeat facts old stamp setup draft events (Ok at) new → OpensSeat facts old stamp setup draft events (Err unopened.OutOfMemory) new
+  seat_not_held {at = at} (SeatRefused after fault h none same told) = absurd (let f : ◌≡◌ {A = Result (Moment DraftView) OpenGameError} (Ok at) (Err _) = told in cc)
   seat_not_held {at = at} (SeatUnkept after v bytes h put keeps told) = absurd (let f : ◌≡◌ {A = Result (Moment DraftView) OpenGameError} (Ok at) (Err _) = told in cc)
   seat_not_held {at = at} (SeatNotHeld after v h kept told) = absurd (let f : ◌≡◌ {A = Result (Moment DraftView) OpenGameError} (Ok at) (Err _) = told in cc)
   seat_not_held (SeatOpened after v h kept told) = SeatNotHeld after v h kept refl
 
-  taken_not_held : {t : _} {g : G} {stamp : List ℕ} {game : _} {events : List Event} {at : Moment DraftView} → TakesAndOpens facts t g stamp game events (Ok at) → TakesAndOpens facts t g stamp game events (Err unopened.OutOfMemory)
+  taken_not_held : {t : _} {old new : G} {stamp : List ℕ} {game : _} {events : List Event} {at : Moment DraftView} → TakesAndOpens facts t old stamp game events (Ok at) new → TakesAndOpens facts t old stamp game events (Err unopened.OutOfMemory) new
   taken_not_held {at = at} (TakesNone why takes told) = absurd (let f : ◌≡◌ {A = Result (Moment DraftView) OpenGameError} (Ok at) (Err why) = told in cc)
-  taken_not_held (TakesOne first rest got takes opens are) = TakesOne first rest got takes (seat_not_held opens) are
+  taken_not_held (TakesOne first rest got mid takes opens are) = TakesOne first rest got mid takes (seat_not_held opens) are
 
-  pub not_held : {t : _} {g : G} {m : Message} {events : List Event} {at : Moment DraftView} → OpensFor facts t g m events (Ok at) → OpensFor facts t g m events (Err unopened.OutOfMemory)
-  not_held {at = at} (OpensNone is none told) = absurd (let f : ◌≡◌ {A = Result (Moment DraftView) OpenGameError} (Ok at) (Err _) = told in cc)
-  not_held {at = at} (NotFound why is finds told) = absurd (let f : ◌≡◌ {A = Result (Moment DraftView) OpenGameError} (Ok at) (Err why) = told in cc)
-  not_held {at = at} (IsOther game is finds other told) = absurd (let f : ◌≡◌ {A = Result (Moment DraftView) OpenGameError} (Ok at) (Err _) = told in cc)
+  pub not_held : {t : _} {old new : G} {m : Message} {events : List Event} {at : Moment DraftView} → OpensFor facts t old m events (Ok at) new → OpensFor facts t old m events (Err unopened.OutOfMemory) new
+  not_held {at = at} (OpensNone is none same told) = absurd (let f : ◌≡◌ {A = Result (Moment DraftView) OpenGameError} (Ok at) (Err _) = told in cc)
+  not_held {at = at} (NotFound why is finds same told) = absurd (let f : ◌≡◌ {A = Result (Moment DraftView) OpenGameError} (Ok at) (Err why) = told in cc)
+  not_held {at = at} (IsOther game is finds other same told) = absurd (let f : ◌≡◌ {A = Result (Moment DraftView) OpenGameError} (Ok at) (Err _) = told in cc)
   not_held (IsFound game first rest is finds of opens are) = IsFound game first rest is finds of (taken_not_held opens) are
 
 -- ---- the game of a message is opened where it isn't open
@@ -77,7 +77,7 @@ module _ {T P F K S L G : Type 0} (o : Outside T P F K S L) (facts : GamesFacts 
       is = record {
         seat = seat;
         there = is;
-        has = subst (λ (k : Option (Seat F)). HasGame facts (common old) old.shared.games m (option_map (seat_moment old.shared.tables) k) [] (seat_moment old.shared.tables seat)) (sym is) (refl, refl);
+        has = subst (λ (k : Option (Seat F)). HasGame facts (common old) old.shared.games m (option_map (seat_moment old.shared.tables) k) [] (seat_moment old.shared.tables seat) old.shared.games) (sym is) (refl, refl, refl);
         seated = at_some (IsSeat o facts old.shared.games old.shared.tables (stamp_in m)) (open_at old (stamp_in m)) seat is (seats (stamp_in m));
         knows = λ before knew. subst (λ (b : List Event). IsKnownSeat facts old.shared.games b (stamp_in m) seat) (sym (append-nil before)) (at_some (IsKnownSeat facts old.shared.games before (stamp_in m)) (open_at old (stamp_in m)) seat is (knew (stamp_in m)));
         others = λ other apart. inl refl;
@@ -111,8 +111,8 @@ module _ {T P F K S L G : Type 0} (o : Outside T P F K S L) (facts : GamesFacts 
       abbrev entries : List (List ℕ × Seat F)
       entries = (stamp_in m, seat) ∷ take (old.seats.cap - 1) old.seats.entries
 
-      has_now : (was : Option (Seat F)) → was ≡ None → HasGame facts (common old) old.shared.games m (option_map (seat_moment old.shared.tables) was) p.0 (seat_moment old.shared.tables seat)
-      has_now was is = subst (λ (k : Option (Seat F)). HasGame facts (common old) old.shared.games m (option_map (seat_moment old.shared.tables) k) p.0 (seat_moment old.shared.tables seat)) (sym is) p.2.opens
+      has_now : (was : Option (Seat F)) → was ≡ None → HasGame facts (common old) old.shared.games m (option_map (seat_moment old.shared.tables) was) p.0 (seat_moment old.shared.tables seat) new.games
+      has_now was is = subst (λ (k : Option (Seat F)). HasGame facts (common old) old.shared.games m (option_map (seat_moment old.shared.tables) k) p.0 (seat_moment old.shared.tables seat) new.games) (sym is) p.2.opens
 
       put : (l : LruCache (List ℕ) (Seat F)) → l ≡ lru_cache entries old.seats.cap → AddsSome o t t' (Brings o facts old (with_seats new l) m (Ok tt))
       put l is = subst (λ (c : LruCache (List ℕ) (Seat F)). AddsSome o t t' (Brings o facts old (with_seats new c) m (Ok tt))) (sym is) (

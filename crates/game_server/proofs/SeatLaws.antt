@@ -85,22 +85,22 @@ abbrev pub failed : (A E : Type 0) → E → Result A E
 failed A E e = Err e
 
 module _ {T P F K S L G A E : Type 0} (o : Outside T P F K S L) (facts : GamesFacts G) (old new : G) (before after : KeptGame F) where
-  pub kept_if_any : (x : A) (events : List Event) → KeepsGame facts o old new before after (okay A E x) events → KeptIfAny facts (facts.place old) before.stamp before.draft.to_put events
+  pub kept_if_any : (x : A) (events : List Event) → KeepsGame facts o old new before after (okay A E x) events → KeptIfAny facts old before.stamp before.draft.to_put events new
   kept_if_any x events h = by before.draft.to_put refl
     where
-      by : (k : Option (List ℕ)) → before.draft.to_put ≡ k → KeptIfAny facts (facts.place old) before.stamp k events
-      by None is = (h.none is).0
+      by : (k : Option (List ℕ)) → before.draft.to_put ≡ k → KeptIfAny facts old before.stamp k events new
+      by None is = let n = h.none is in (n.0, n.1)
       by (Some bytes) is = h.some bytes is
 
   pub kept_known : (x : A) (events : List Event) → KeepsGame facts o old new before after (okay A E x) events → (bytes : List ℕ) → before.draft.to_put ≡ Some bytes → known facts new events before.stamp bytes
   kept_known x events h bytes is = h.known bytes is
 
   -- it had something to put, and that wasn't kept
-  pub unkept_some : (e : E) (events : List Event) → KeepsGame facts o old new before after (failed A E e) events → (bytes : List ℕ) × (before.draft.to_put ≡ Some bytes) × facts.keeps (facts.place old) before.stamp bytes false events
+  pub unkept_some : (e : E) (events : List Event) → KeepsGame facts o old new before after (failed A E e) events → (bytes : List ℕ) × (before.draft.to_put ≡ Some bytes) × facts.keeps old before.stamp bytes false events new
   unkept_some e events h = by before.draft.to_put refl
     where
-      by : (k : Option (List ℕ)) → before.draft.to_put ≡ k → (bytes : List ℕ) × (before.draft.to_put ≡ Some bytes) × facts.keeps (facts.place old) before.stamp bytes false events
-      by None is = let ok = (h.none is).1 in absurd (err_not_ok (failed A E e) e ok refl)
+      by : (k : Option (List ℕ)) → before.draft.to_put ≡ k → (bytes : List ℕ) × (before.draft.to_put ≡ Some bytes) × facts.keeps old before.stamp bytes false events new
+      by None is = let ok = (h.none is).2 in absurd (err_not_ok (failed A E e) e ok refl)
       by (Some bytes) is = (bytes, is, h.some bytes is)
 
 pub quiet_nothing : {G : Type 0} (facts : GamesFacts G) (g : G) → IsQuiet facts g g []

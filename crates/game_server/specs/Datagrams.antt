@@ -48,7 +48,7 @@ pub record HearsDatagram {T P F K S L G : Type 0} (o : Outside T P F K S L) (fac
   pub still : IsQuiet facts old.shared.games new.shared.games events
   pub noted : StaysNoted facts old.shared.games new.shared.games
   pub fate : Fate
-  pub goes : GoesTo facts (common old) old.shared.games datagram (was_open old (heard_in datagram)) events fate
+  pub goes : GoesTo facts (common old) old.shared.games datagram (was_open old (heard_in datagram)) events fate new.shared.games
   pub is : IsReply reply fate
   pub own : was_open new (heard_in datagram) ≡ fate_leaves fate
   pub used : in_use new ≡ used_by (room old) fate (in_use old)

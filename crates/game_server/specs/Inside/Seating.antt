@@ -60,7 +60,7 @@ pub record OpensOverKept {T P F K S L G : Type 0} (o : Outside T P F K S L) (fac
   pub same : SameCommon old new
   pub still : IsQuiet facts old.games new.games events
   pub noted : StaysNoted facts old.games new.games
-  pub opens : OpensSeat facts (facts.place old.games) kept.stamp (setup_of (common_in old) game.name.items game.start game.delay) kept.draft events (seated_as old.tables result)
+  pub opens : OpensSeat facts old.games kept.stamp (setup_of (common_in old) game.name.items game.start game.delay) kept.draft events (seated_as old.tables result) new.games
   pub ok : IfOk result (IsSeat o facts new.games old.tables kept.stamp)
   pub knows : IfOk result (KnowsSeat facts old.games new.games kept.stamp kept.draft.kept events)
 
@@ -69,7 +69,7 @@ pub record OpensTaken {T P F K S L G : Type 0} (o : Outside T P F K S L) (facts 
   pub same : SameCommon old new
   pub still : IsQuiet facts old.games new.games events
   pub noted : StaysNoted facts old.games new.games
-  pub opens : TakesAndOpens facts (common_in old) old.games stamp game events (seated_as old.tables result)
+  pub opens : TakesAndOpens facts (common_in old) old.games stamp game events (seated_as old.tables result) new.games
   pub ok : IfOk result (IsSeat o facts new.games old.tables stamp)
   pub knows : IfOk result (IsKnownThen facts new.games stamp events)
 
@@ -78,7 +78,7 @@ pub record OpensForMessage {T P F K S L G : Type 0} (o : Outside T P F K S L) (f
   pub same : SameCommon old new
   pub still : IsQuiet facts old.games new.games events
   pub noted : StaysNoted facts old.games new.games
-  pub opens : OpensFor facts (common_in old) old.games m events (seated_as old.tables result)
+  pub opens : OpensFor facts (common_in old) old.games m events (seated_as old.tables result) new.games
   pub ok : IfOk result (IsSeat o facts new.games old.tables (stamp_in m))
   pub knows : IfOk result (IsKnownThen facts new.games (stamp_in m) events)
 
@@ -100,7 +100,7 @@ pub record DeliversTo {T P F K S L G : Type 0} (o : Outside T P F K S L) (facts 
   pub told : Told
   pub after : Moment DraftView
   pub is_kept : Bool
-  pub answers : AnswersBy facts old.games (stamp_in m) (seat_moment old.tables seat) m told after is_kept events
+  pub answers : AnswersBy facts old.games (stamp_in m) (seat_moment old.tables seat) m told after is_kept events new.games
   pub left : seat_moment old.tables seat' ≡ moment after.arbiter (settled after.keeper)
   pub reply : (datagram : List ℕ) → IsReply (reply_in result) (Answered (stamp_in m) (exchange datagram told after) is_kept)
   pub closed : closes result ≡ is_unput after.keeper.to_put is_kept told
@@ -118,7 +118,7 @@ used_first stamp seat entries = (stamp, seat) ∷ remove_entry (bytes_eq stamp) 
 pub record IsOpenFor {T P F K S L G : Type 0} (o : Outside T P F K S L) (facts : GamesFacts G) (old new : Server G F) (m : Message) (events : List Event) : Type 0 where
   pub seat : Seat F
   pub there : open_at new (stamp_in m) ≡ Some seat
-  pub has : HasGame facts (common old) old.shared.games m (option_map (seat_moment old.shared.tables) (open_at old (stamp_in m))) events (seat_moment old.shared.tables seat)
+  pub has : HasGame facts (common old) old.shared.games m (option_map (seat_moment old.shared.tables) (open_at old (stamp_in m))) events (seat_moment old.shared.tables seat) new.shared.games
   pub seated : IsSeat o facts new.shared.games old.shared.tables (stamp_in m) seat
   pub knows : (before : List Event) → AreKnown facts old before → IsKnownSeat facts new.shared.games (before ++ events) (stamp_in m) seat
   pub others : (other : List ℕ) → bytes_eq (stamp_in m) other ≡ false → IsLeftOpen (open_at old other) (open_at new other)
@@ -127,7 +127,7 @@ pub record IsOpenFor {T P F K S L G : Type 0} (o : Outside T P F K S L) (facts :
 -- or it isn't, for this reason; no other was used
 pub record IsNotOpenFor {G F : Type 0} (facts : GamesFacts G) (old new : Server G F) (m : Message) (why : OpenGameError) (events : List Event) : Type 0 where
   pub none : open_at old (stamp_in m) ≡ None
-  pub opens : OpensFor facts (common old) old.shared.games m events (Err why)
+  pub opens : OpensFor facts (common old) old.shared.games m events (Err why) new.shared.games
   pub seats : new.seats ≡ old.seats
 
 abbrev pub IsOpenOrNot : {T P F K S L G : Type 0} → Outside T P F K S L → GamesFacts G → Server G F → Server G F → Message → Result (Unit {0}) OpenGameError → List Event → Type 0
@@ -172,7 +172,7 @@ pub record AnswersFrom {T P F K S L G : Type 0} (o : Outside T P F K S L) (facts
   pub told : Told
   pub after : Moment DraftView
   pub is_kept : Bool
-  pub answers : AnswersBy facts old.shared.games (stamp_in m) (seat_moment old.shared.tables seat) m told after is_kept events
+  pub answers : AnswersBy facts old.shared.games (stamp_in m) (seat_moment old.shared.tables seat) m told after is_kept events new.shared.games
   pub is : (datagram : List ℕ) → IsReply reply (Answered (stamp_in m) (exchange datagram told after) is_kept)
   pub own : IsSeatedNow o facts old.shared.games new.shared.games old.shared.tables (stamp_in m) seat (moment after.arbiter (settled after.keeper)) events (is_unput after.keeper.to_put is_kept told) (open_at new (stamp_in m))
   pub others : (other : List ℕ) → bytes_eq (stamp_in m) other ≡ false → open_at new other ≡ open_at old other

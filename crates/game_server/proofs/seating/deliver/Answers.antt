@@ -48,7 +48,7 @@ returns-in-Ok-keep g c =
           told = Ok outputs;
           after = after;
           is_kept = true;
-          answers = record { answers = c.in-Ok.ensures.answers; kept = subst (λ (s : List ℕ). KeepsAnswer facts (facts.place old.games) s (Ok outputs) draft.to_put true h.0) of (keeps_answer facts _ seat.kept.stamp outputs draft.to_put h.0 (kept_if_any o facts _ _ _ _ _ h.0 k)) };
+          answers = record { answers = c.in-Ok.ensures.answers; kept = subst (λ (s : List ℕ). KeepsAnswer facts old.games s (Ok outputs) draft.to_put true h.0 c.keep.new.self) of (keeps_answer facts old.games c.keep.new.self seat.kept.stamp outputs draft.to_put h.0 (kept_if_any o facts _ _ _ _ _ h.0 k)) };
           left = ap (moment (awake c.deliver.new.self old.tables)) k.draft;
           reply = λ datagram. let f = fate_kept stamp (exchange datagram (Ok outputs) after) (put_if_any draft.to_put outputs) in
               record { outputs = sym f.0; line = ap₂ stamped c.stamp-stamp.ensures (ap₂ heard_words c.count.ensures.is c.verdict.ensures) ∙ sym f.1; told = (report.Recorded c.count.result c.verdict.result, ap (λ (s : List ℕ). line.Answered s (report.Recorded c.count.result c.verdict.result)) c.stamp-stamp.ensures, λ lost. absurd (false≢true (sym (put_if_any draft.to_put outputs) ∙ lost))) };
@@ -86,7 +86,7 @@ returns-in-Err-keep g c =
           told = Ok outputs;
           after = after;
           is_kept = false;
-          answers = record { answers = c.in-Ok.ensures.answers; kept = subst (λ (s : List ℕ). KeepsAnswer facts (facts.place old.games) s (Ok outputs) draft.to_put false h.0) of (keeps_lost facts _ c.args.seat.now.kept.stamp outputs draft.to_put h.0 lost.0 lost.1 lost.2) };
+          answers = record { answers = c.in-Ok.ensures.answers; kept = subst (λ (s : List ℕ). KeepsAnswer facts old.games s (Ok outputs) draft.to_put false h.0 c.keep.new.self) of (keeps_lost facts old.games c.keep.new.self c.args.seat.now.kept.stamp outputs draft.to_put h.0 lost.0 lost.1 lost.2) };
           left = ap (moment (awake c.deliver.new.self old.tables)) k.draft;
           reply = λ datagram. let f = fate_lost stamp (exchange datagram (Ok outputs) after) (ap (λ (p : Option (List ℕ)). is_unput p false (Ok outputs)) lost.1) in
               record { outputs = c.line_alone.ensures.outputs ∙ sym f.0; line = ap line_words c.line_alone.ensures.line ∙ (ap (λ (s : List ℕ). stamped s refused_keeper) c.stamp-stamp.ensures ∙ sym f.1); told = (report.KeeperLost, c.line_alone.ensures.line ∙ ap (λ (s : List ℕ). line.Answered s report.KeeperLost) c.stamp-stamp.ensures, λ gone. refl) };
@@ -122,7 +122,7 @@ returns-in-Err g c =
           told = Err c.in-Err.fault;
           after = after;
           is_kept = true;
-          answers = record { answers = c.in-Err.ensures.answers; kept = refl };
+          answers = record { answers = c.in-Err.ensures.answers; kept = (refl, refl) };
           left = ap (moment (awake c.deliver.new.self old.tables)) (clean_draft draft clean);
           reply = λ datagram. record { outputs = out; line = ap line_words c.line_alone-in-Err.ensures.line ∙ ap₂ stamped c.stamp-stamp.ensures c.refused.ensures; told = (c.refused.result, c.line_alone-in-Err.ensures.line ∙ ap (λ (s : List ℕ). line.Answered s c.refused.result) c.stamp-stamp.ensures, λ lost. absurd (false≢true lost)) };
           closed = refl;
