@@ -60,9 +60,9 @@ module _ {T P F K S L : Type 0} (o : Outside T P F K S L) (folder : List ℕ) (s
       let before : List Event = all_look_events (o.store_path store) folder w.looks in
       record {
         looks = w.looks ++ look ∷ [];
-        all = all_looks w.looks look w.all p.2.2;
+        all = all_looks w.looks look w.all p.2.1.1;
         are = map-append (λ (l : Look). l.stamp) w.looks (look ∷ []) ∙ ap (λ (l : List (List ℕ)). l ++ stamp ∷ []) w.are;
-        made = subst (Adds o a c) (ap (λ (e : List Event). before ++ e) p.2.3 ∙ sym (pushed (look_events (o.store_path store) folder) w.looks look)) (adds_more o a b c before p.0 w.made p.1);
+        made = subst (Adds o a c) (ap (λ (e : List Event). before ++ e) p.2.1.2 ∙ sym (pushed (look_events (o.store_path store) folder) w.looks look)) (adds_more o a b c before p.0 w.made p.1);
       }
 
   pub one_seen : (stamps : List (List ℕ)) (stamp : List ℕ) (a b c : T) (seen : Seen) (arrivals arrivals' : Arrivals) → HasSeen stamps a b arrivals → AddsSome o b c (SeesGame o folder store stamp (Ok seen))
@@ -71,7 +71,7 @@ module _ {T P F K S L : Type 0} (o : Outside T P F K S L) (folder : List ℕ) (s
   one_seen stamps stamp a b c seen arrivals arrivals' h p adds =
       let kept = p.2.0 in
       let look = look_of stamp kept in
-      let added = adds kept p.2.1 in
+      let added = adds kept p.2.1.0 in
       record {
         seen = one_more stamps stamp a b c seen h.seen p;
         arrived = record {
