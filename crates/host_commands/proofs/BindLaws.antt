@@ -1,11 +1,11 @@
 -- Ports that are asked for, and locks.
-use Rattle.std.proofs.Common.{◌≡◌, ◌∷◌, ◌++◌, ◌∙◌, [], ℕ, List, ap, inl, inr, refl, subst, sym}
+use Rattle.std.proofs.Common.{◌≡◌, ◌∷◌, ◌++◌, [], ℕ, List, ap, inl, inr, refl, subst, sym}
 use Rattle.std.specs.Prelude.{Result, Ok, Err, IfErr, IfOk, ◌<◌, length}
 use Rattle.answer_parts.specs.Lines.{refused_in_use}
 use Rattle.arbiter_server.specs.ServedLines.{refused_port}
 use Rattle.command_line.specs.Addresses.{addresses_of}
 use Rattle.line_teller.specs.ToldLines.{refused_memory}
-use Rattle.host_commands.specs.Binds.{BindsPort, IsBound, IsPortOf, NoRoomForAddresses, NoRoomToBind, Unbound, unbound_line}
+use Rattle.host_commands.specs.Binds.{BindsPort, IsBound, NoRoomForAddresses, NoRoomToBind, Unbound, unbound_line}
 use Rattle.host_commands.specs.Inside.Parts.{AsksForPort}
 use Rattle.host_commands.specs.Locks.{InUse, LocksFile, held_line}
 use Rattle.host_commands.specs.Notes.{MayNote}

@@ -24,7 +24,6 @@ use Rattle.host_commands.specs.Inside.HostParts.{GoesOnUnlogged, HostDoes}
 use Rattle.host_commands.specs.Listings.{ListsGames}
 use Rattle.host_commands.specs.Notes.{MayNote}
 use Rattle.host_commands.specs.ServerRuns.{AnswersAll, LosesLine}
-use Rattle.host_commands.specs.Steps.{Doing, ThenOrRefused}
 use Rattle.host_commands.specs.Tables.{GathersTables, MakesManifest}
 
 module _ {T P F K S L G : Type 0} (o : Outside T P F K S L) (facts : GamesFacts G) where

@@ -1,6 +1,6 @@
 -- Games are looked at one after the other, and what comes is put into a store.
-use Rattle.std.proofs.Common.{◌≡◌, ◌∙◌, ◌∷◌, ◌++◌, ◌+◌, [], ℕ, List, append_assoc, ap, drop, drop-cons, get_or, length, map, refl, subst, suc, sym, take, take-append-drop}
-use Rattle.std.proofs.lemmas.List.{map-append, take_all, take_more}
+use Rattle.std.proofs.Common.{◌≡◌, ◌∙◌, ◌∷◌, ◌++◌, ◌+◌, [], ℕ, List, ap, drop, drop-cons, get_or, length, refl, subst, suc, sym, take, take-append-drop}
+use Rattle.std.proofs.lemmas.List.{map-append, take_more}
 use Rattle.std.proofs.lemmas.List.Concat.{flat_map-append}
 use Rattle.std.specs.Cmp.Lexicographic.{slice_cmp}
 use Rattle.std.specs.Global.{Global}
@@ -12,8 +12,8 @@ use Rattle.answer_parts.specs.Lines.{refusal_words}
 use Rattle.answer_parts.specs.declared.answers.refusals.Refusal.{Refusal}
 use Rattle.game_status.proofs.ListingLaws.{are_stamps}
 use Rattle.game_status.specs.Listings.{AddsStamps, AreStampsIn, kept_ending}
-use Rattle.host_commands.specs.Imports.{AllImported, AreListed, AllSeen, FolderIsNot, Imported, ImportsRecords, IsLook, ListsAndLooks, Look, LooksAndPuts, LooksAtAll, NoRoomFor, NoRoomForStamps, NotPut, OneFails, OneUnseen, PutsComing, all_look_events, coming, entry_in, left_by, left_in, look_events, stamps_of}
-use Rattle.host_commands.specs.Inside.Importing.{AddsSeen, AreArrivals, CannotListKept, ListsKept, LooksAtThese, NoNames, NoRoomForThem, SeesGame, imported_or, look_of, put_or}
+use Rattle.host_commands.specs.Imports.{AllImported, AreListed, AllSeen, FolderIsNot, ImportsRecords, IsLook, ListsAndLooks, Look, LooksAndPuts, LooksAtAll, NoRoomFor, NoRoomForStamps, NotPut, OneFails, OneUnseen, PutsComing, all_look_events, entry_in, left_by, look_events, stamps_of}
+use Rattle.host_commands.specs.Inside.Importing.{AddsSeen, AreArrivals, CannotListKept, ListsKept, LooksAtThese, NoNames, NoRoomForThem, SeesGame, imported_or, look_of}
 use Rattle.host_commands.specs.declared.arriving.Seen.{Seen}
 use Rattle.host_commands.specs.declared.importing.Arrivals.{Arrivals}
 use Rattle.line_teller.specs.ToldLines.{refused_memory}

@@ -1,5 +1,5 @@
 -- Folders that are listed.
-use Rattle.std.proofs.Common.{◌≡◌, ◌∷◌, ◌++◌, [], ℕ, List, refl}
+use Rattle.std.proofs.Common.{◌∷◌, ◌++◌, [], ℕ, List, refl}
 use Rattle.std.specs.Prelude.{Ok, Err}
 use Rattle.arbiter_server.specs.ServedLines.{refused_store}
 use Rattle.command_line.specs.declared.words.numbers.StoreForm.{StoreForm}

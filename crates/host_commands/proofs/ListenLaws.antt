@@ -1,5 +1,5 @@
 -- An arbiter of one game, one step after another.
-use Rattle.std.proofs.Common.{◌≡◌, ◌++◌, ◌∷◌, [], ℕ, List, refl, subst}
+use Rattle.std.proofs.Common.{◌≡◌, ◌∷◌, [], ℕ, List, refl, subst}
 use Rattle.std.specs.Prelude.{Result, Ok, Err}
 use Rattle.answer_parts.proofs.PrintLaws.{then_does}
 use Rattle.answer_parts.specs.Printing.{Performs, Prints}

@@ -1,18 +1,17 @@
 -- A game whose record is listed as a file is looked at.
-use Rattle.std.proofs.Common.{◌≡◌, ◌∙◌, ◌∷◌, ◌++◌, ◌⊎◌, [], ℕ, Bool, true, false, List, Option, Some, None, ap, inl, inr, refl, subst, sym}
+use Rattle.std.proofs.Common.{◌≡◌, ◌∷◌, ◌++◌, [], ℕ, true, false, List, Option, Some, None, ap, inl, inr, refl, subst, sym}
 use Rattle.std.specs.Borrow.{Bor}
 use Rattle.std.specs.Prelude.{MatchOption, Result, Ok, Err, is_some, option_map}
 use Rattle.answer_parts.specs.Lines.{refusal_words}
 use Rattle.answer_parts.specs.declared.answers.refusals.Refusal.{Refusal}
 use Rattle.arbiter_server.specs.GameFolders.{kept_path}
 use Rattle.game_status.specs.Imports.{IsEntryOf, IsNoRecordOf}
-use Rattle.host_commands.specs.Imports.{FailsToLook, FileUnread, InFile, InNeither, InStore, IsLook, Kept, NoRoomForFile, NoRoomToRead}
-use Rattle.host_commands.specs.Inside.Importing.{CannotReadRecord, HasRecord, IsUnread, NoRoomToDecode, ReadsInFolder, ReadsRecord, SeesGame}
-use Rattle.host_commands.specs.declared.arriving.Seen.{Seen}
+use Rattle.host_commands.specs.Imports.{FailsToLook, FileUnread, InFile, InNeither, InStore, NoRoomForFile, NoRoomToRead}
+use Rattle.host_commands.specs.Inside.Importing.{HasRecord, IsUnread, NoRoomToDecode, ReadsInFolder, ReadsRecord, SeesGame}
 use Rattle.host_commands.specs.declared.arriving.Seen.TheVariants as seen
 use Rattle.system_io.specs.Records.{StoredRecord}
 use Rattle.system_io.specs.declared.record_store.Entry.{Entry}
-use Rattle.timeline.proofs.EventLaws.{adds_more, adds_so}
+use Rattle.timeline.proofs.EventLaws.{adds_more}
 use Rattle.timeline.specs.Events.{Event, FileRead, RecordSought, bytes_found}
 use Rattle.timeline.specs.Outsides.{Adds, AddsSome, Outside}
 

@@ -1,5 +1,5 @@
 -- One step after another of a host that may outlive its log.
-use Rattle.std.proofs.Common.{◌≡◌, ◌++◌, ◌∷◌, [], ℕ, true, false, List, Option, Some, None, ap, refl, subst, sym}
+use Rattle.std.proofs.Common.{◌≡◌, ◌++◌, ◌∷◌, [], ℕ, false, List, Option, Some, None, ap, refl, subst, sym}
 use Rattle.std.specs.Prelude.{Result, Ok, Err, IsOk, OnErr}
 use Rattle.answer_parts.proofs.PrintLaws.{cut_behind}
 use Rattle.answer_parts.specs.Printing.{Performs, Prints}
@@ -7,7 +7,7 @@ use Rattle.command_line.specs.declared.commands.host.HostGames.{HostGames}
 use Rattle.host_commands.proofs.QuietLaws.{IsQuietStep, both_quiet, cut_quiet, printed_quiet}
 use Rattle.host_commands.specs.Inside.Parts.{GoesOut}
 use Rattle.host_commands.specs.Outliving.{PerformsOutliving, ReceivesNothing}
-use Rattle.host_commands.specs.Steps.{AfterText, Doing, GoesOn, IsRefused, Step, TextFirst, ThenOrRefused, ThenRest, gone_out}
+use Rattle.host_commands.specs.Steps.{AfterText, Doing, GoesOn, IsRefused, Step, TextFirst, ThenOrRefused, ThenRest}
 use Rattle.system_io.specs.declared.output.WriteFault.{WriteFault}
 use Rattle.timeline.proofs.EventLaws.{adds_more}
 use Rattle.timeline.specs.Events.{Event}

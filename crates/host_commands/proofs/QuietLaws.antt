@@ -1,6 +1,5 @@
 -- What is done before a datagram is awaited.
 use Rattle.std.proofs.Common.{◌≡◌, ◌++◌, ◌∷◌, [], ℕ, Bool, true, false, List, Option, Some, None, map, refl, subst, sym}
-use Rattle.std.specs.List.{AllByRecursion}
 use Rattle.std.specs.Prelude.{Result, Ok, Err, take}
 use Rattle.answer_parts.specs.Printing.{AtFlush, AtWrite, IsCutIn, printed}
 use Rattle.move_msg.specs.Files.{File}
@@ -9,7 +8,7 @@ use Rattle.move_msg.specs.declared.told.Manifest.TheVariants.{Unnamed}
 use Rattle.command_line.specs.declared.words.numbers.StoreForm.{StoreForm}
 use Rattle.host_commands.specs.Binds.{BindsPort, IsBound, NoRoomForAddresses, NoRoomToBind, Unbound}
 use Rattle.host_commands.specs.Hosts.{IsKept, KeepsInStore, NoImport, NoStore, OpensGames, OverStore}
-use Rattle.host_commands.specs.Imports.{AllImported, AllPut, AllSeen, FailsToLook, FileUnread, FolderIsNot, Imported, ImportsRecords, InFile, InNeither, InStore, Kept, LeftNotNoted, LeftNoted, ListsAndLooks, Look, LooksAndPuts, LooksAtAll, NoRoomFor, NoRoomForFile, NoRoomForStamps, NoRoomForStore, NoRoomToRead, NoneComes, NonePut, NotPut, NotesAllLeft, NotesLeft, OneFails, OneUnseen, OpensStore, PutsComing, StoreIs, StoreIsNot, all_look_events, file_events, look_events}
+use Rattle.host_commands.specs.Imports.{AllImported, AllPut, AllSeen, FailsToLook, FileUnread, FolderIsNot, ImportsRecords, InFile, InNeither, InStore, Kept, LeftNotNoted, LeftNoted, ListsAndLooks, Look, LooksAndPuts, LooksAtAll, NoRoomFor, NoRoomForFile, NoRoomForStamps, NoRoomForStore, NoRoomToRead, NoneComes, NonePut, NotPut, NotesAllLeft, NotesLeft, OneFails, OneUnseen, OpensStore, PutsComing, StoreIs, StoreIsNot, all_look_events, file_events, look_events}
 use Rattle.host_commands.specs.Listings.{IsBarred, IsListed, IsNotListed, ListsGames}
 use Rattle.host_commands.specs.Locks.{InUse, IsLocked, LocksFile, NoLock, NoRoomForPath, NoRoomToLock}
 use Rattle.host_commands.specs.Notes.{IsNoted, MayNote, NotNoted, ThenMayNote}
@@ -17,13 +16,11 @@ use Rattle.host_commands.specs.Outliving.{ReceivesNothing, is_receive}
 use Rattle.host_commands.specs.Steps.{Step}
 use Rattle.host_commands.specs.Tables.{ReadsNamed}
 use Rattle.arbiter_server.specs.GameFolders.{kept_path}
-use Rattle.game_folder.specs.StoreGames.{StoredGames}
 use Rattle.system_io.specs.Disks.{DiskFacts}
 use Rattle.system_io.specs.Inputs.{InputFacts}
 use Rattle.system_io.specs.declared.reading.ReadFault.{ReadFault}
 use Rattle.system_io.specs.declared.record_store.Entry.{Entry}
-use Rattle.task_files.specs.Given.{Given}
-use Rattle.task_files.specs.InputReads.{Both, FileIs, FileIsNot, FirstAlone, Gives, Held, InputIs, InputIsNot, LinesAre, NoRoomForLines, Reading, ReadsAllInput, ReadsFile, ReadsGiven, ReadsHeld, ReadsInput, ReadsKept, ReadsLines, ReadsManifest, ReadsText, ReadsTexts, ReadsWanted, TextsRead, Then, given_by}
+use Rattle.task_files.specs.InputReads.{Both, FileIs, FileIsNot, FirstAlone, Gives, InputIs, InputIsNot, LinesAre, NoRoomForLines, Reading, ReadsAllInput, ReadsFile, ReadsHeld, ReadsInput, ReadsKept, ReadsLines, ReadsManifest, ReadsText, ReadsTexts, ReadsWanted, Then, given_by}
 use Rattle.task_files.specs.Sources.{Named}
 use Rattle.task_files.specs.TableReads as tables
 use Rattle.timeline.specs.Events.{Event, Refused, Wrote}

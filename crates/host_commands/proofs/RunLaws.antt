@@ -1,8 +1,8 @@
 -- A run of a server, as it ends or as the output fails in it.
 use Rattle.std.proofs.Common.{◌≡◌, ◌∙◌, ℕ, Bool, true, false, ◌++◌, List, [], ◌∷◌, Option, Some, None, append_assoc, ap, refl, subst, sym}
 use Rattle.std.proofs.lemmas.List.Concat.{flat_map-append}
-use Rattle.std.specs.List.{AllByRecursion, flat_map}
-use Rattle.std.specs.Prelude.{Result, Ok, Err, IsOk, ◌<◌, ◌-◌, min, take}
+use Rattle.std.specs.List.{AllByRecursion}
+use Rattle.std.specs.Prelude.{Result, Ok, Err, IsOk, ◌<◌, ◌-◌}
 use Rattle.answer_parts.proofs.PrintLaws.{cut_behind}
 use Rattle.answer_parts.specs.Printing.{AtFlush, AtWrite, IsCutIn, Performs}
 use Rattle.arbiter_server.specs.Told.{line_words}
@@ -10,12 +10,12 @@ use Rattle.arbiter_server.specs.declared.line.Line.{Line}
 use Rattle.arbiter_server.specs.declared.line_log.LogForm.TheVariants.{Nothing}
 use Rattle.game_folder.specs.Holdings.{GamesFacts}
 use Rattle.game_server.specs.Printing.{LineForm, LinesCut, OfGames, TextEnd, WasCut, WasStuck, WentOut, WritesLines, after_lines, is_out, lines_out, text_events, text_out, written_text}
-use Rattle.game_server.specs.Runs.{AreWithin, GoesOnAfter, IsWithin, InTurns, IsTurn, RunEnds, Serves, Turn, came, came_in, deed_events, deed_lines, ends_run, run_events, turn_events, with_last}
+use Rattle.game_server.specs.Runs.{AreWithin, GoesOnAfter, InTurns, IsTurn, RunEnds, Serves, Turn, came, came_in, deed_events, deed_lines, ends_run, run_events, turn_events, with_last}
 use Rattle.game_server.specs.declared.server.Server.{Server}
 use Rattle.move_msg.specs.TextLines.{ended}
 use Rattle.system_io.specs.declared.output.WriteFault.{WriteFault}
 use Rattle.system_io.specs.declared.recipient.Recipient.{Recipient}
-use Rattle.timeline.specs.Events.{Event, Flushed, Refused, Wrote}
+use Rattle.timeline.specs.Events.{Event, Flushed, Wrote}
 use Rattle.timeline.specs.Outsides.{Adds, AddsSome, Outside}
 use Rattle.timeline.specs.declared.stream.Stream.TheVariants.{Output}
 use Rattle.host_commands.specs.ServerRuns.{AnswersAll, LosesLine}

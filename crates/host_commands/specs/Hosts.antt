@@ -1,5 +1,5 @@
 -- `host`: arbiters of the games of a folder, at one port (this project's own).
-use Rattle.std.specs.Prelude.{◌≡◌, ◌++◌, ℕ, true, List, [], ◌∷◌, Option, Some, None, Result, Ok, Err, codes, length}
+use Rattle.std.specs.Prelude.{◌≡◌, ◌++◌, ℕ, true, List, [], ◌∷◌, Option, None, Result, Ok, Err, codes, length}
 use Rattle.std.specs.Fmt.{decimal}
 use Rattle.std.specs.NonZero.{non_zero_usize_get}
 use Rattle.arbiter_server.specs.Games.{CommonView}

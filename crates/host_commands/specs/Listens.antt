@@ -1,5 +1,5 @@
 -- `listen`: an arbiter of one game, at a port (this project's own).
-use Rattle.std.specs.Prelude.{◌≡◌, ◌++◌, ℕ, Bool, true, false, List, [], ◌∷◌, Option, Some, None, Result, Ok, Err}
+use Rattle.std.specs.Prelude.{◌≡◌, ◌++◌, ℕ, Bool, true, false, List, [], Option, Result, Ok, Err}
 use Rattle.answer_parts.specs.Lines.{refused_fen}
 use Rattle.arbiter_server.specs.GameFiles.{game_as_told}
 use Rattle.arbiter_server.specs.Games.{CommonView}

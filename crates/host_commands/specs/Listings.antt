@@ -1,5 +1,5 @@
 -- The folder of the games that `host` serves, as it is listed (this project's own).
-use Rattle.std.specs.Prelude.{◌≡◌, ◌⊎◌, ◌++◌, ℕ, List, [], ◌∷◌, Result, Ok, Err, codes}
+use Rattle.std.specs.Prelude.{◌≡◌, ◌++◌, ℕ, List, [], ◌∷◌, Result, Ok, Err, codes}
 use Rattle.std.specs.List.{Contains}
 use Rattle.arbiter_server.specs.ServedLines.{refused_store}
 use Rattle.command_line.specs.declared.words.numbers.StoreForm.{StoreForm}

@@ -1,4 +1,3 @@
-use Rattle.std.specs.Prelude.{[]}
 use Rattle.arbiter_server.specs.declared.line_log.LogForm.TheVariants.{Nothing}
 use Rattle.game_server.specs.Printing.{OfGames}
 use Rattle.host_commands.proofs.HostLaws.{unlogged_so}

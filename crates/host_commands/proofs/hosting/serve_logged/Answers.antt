@@ -1,5 +1,5 @@
 use Rattle.std.proofs.Common.{ℕ, List, refl, subst}
-use Rattle.std.specs.Prelude.{Ok, Err, OnErr}
+use Rattle.std.specs.Prelude.{Ok, Err}
 use Rattle.answer_parts.specs.Printing.{OutputFails, Performs}
 use Rattle.game_server.specs.Printing.{OfGames}
 use Rattle.system_io.specs.declared.recipient.Recipient.{Recipient}
