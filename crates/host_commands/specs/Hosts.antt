@@ -120,12 +120,12 @@ module _ {T P F K S L : Type 0} (o : Outside T P F K S L) (folder : List ℕ) wh
       IsKept : (now : Imported S) → ImportsAndNotes now events → result ≡ Ok (stored_games folder now.store now.left) → KeepsInStore result events
 
   -- the store of the folder is opened before
-  abbrev pub Opens : Step S
-  Opens = OpensStore o (store_path folder)
+  abbrev pub OpensIt : Step S
+  OpensIt = OpensStore o (store_path folder)
 
   pub data OpensGames (result : Result (StoredGames S) (List ℕ)) (events : List Event) : Type 0 where
-    NoStore : (words : List ℕ) → Opens (Err words) events → result ≡ Err words → OpensGames result events
-    OverStore : (store : S) (first rest : List Event) → Opens (Ok store) first → KeepsInStore store result rest → events ≡ first ++ rest → OpensGames result events
+    NoStore : (words : List ℕ) → OpensIt (Err words) events → result ≡ Err words → OpensGames result events
+    OverStore : (its : S) (first rest : List Event) → OpensIt (Ok its) first → KeepsInStore its result rest → events ≡ first ++ rest → OpensGames result events
 
 module _ {T P F K S L : Type 0} (o : Outside T P F K S L) (h : HostGames) where
   -- the games of the folder, with a file for each record

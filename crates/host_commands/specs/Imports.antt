@@ -171,7 +171,7 @@ module _ {T P F K S L : Type 0} (o : Outside T P F K S L) (old : S) (entries : L
   put_event done = Committed (o.store_path old) (map stamped entries) done
 
   -- a store has them beside what it had
-  pub record HasPut (new : S) : Type 0 where
+  pub record HasThemToo (new : S) : Type 0 where
     pub has : AreSame (o.store new).has (with_all (o.store old).has entries)
     pub settled : IsSettled (o.store new)
     pub path : o.store_path new ≡ o.store_path old
@@ -179,7 +179,7 @@ module _ {T P F K S L : Type 0} (o : Outside T P F K S L) (old : S) (entries : L
   -- what comes is put into the store, all at once, where anything does: the store as it is then; or that fails
   pub data PutsComing (result : Result S (List ℕ)) (events : List Event) : Type 0 where
     NoneComes : entries ≡ [] → result ≡ Ok old → events ≡ [] → PutsComing result events
-    AllPut : (new : S) → HasPut new → result ≡ Ok new → events ≡ put_event true ∷ [] → PutsComing result events
+    AllPut : (new : S) → HasThemToo new → result ≡ Ok new → events ≡ put_event true ∷ [] → PutsComing result events
     NonePut : (words : List ℕ) → (words ≡ refused_store) ⊎ (words ≡ refused_memory) → result ≡ Err words → events ≡ put_event false ∷ [] → PutsComing result events
 
 -- a store in which records of files have been put, and the games whose files stay

@@ -45,19 +45,19 @@ abbrev pub common_for : Listen → Holding → List ℕ → CommonView
 common_for l set manifest = record { manifest = manifest; number = who_number l.me; set = set; at_once = 1; together = 1 }
 
 -- the stamp of the game that the words tell
-abbrev pub stamp_for : Listen → Parts → List ℕ → List ℕ
-stamp_for l start manifest = stamp_of l.name (fen_of start) manifest l.delay
+abbrev pub stamp_told : Listen → Parts → List ℕ → List ℕ
+stamp_told l start manifest = stamp_of l.name (fen_of start) manifest l.delay
 
 -- this game, whose record is in the file that they name
 abbrev pub game_of : Listen → Parts → List ℕ → OneGameView
 game_of l start manifest = record {
-  at = record { stamp = stamp_for l start manifest; game = game_as_told l.name start l.delay; path = l.kept.now };
+  at = record { stamp = stamp_told l start manifest; game = game_as_told l.name start l.delay; path = l.kept.now };
   is_lost = false;
 }
 
 -- it is what is served, under its stamp by the manifest of its tables
 abbrev pub served_of : Listen → Parts → Holding → List ℕ → OneServed OneGameView
-served_of l start set manifest = record { common = common_for l set manifest; games = game_of l start manifest; stamp = stamp_for l start manifest }
+served_of l start set manifest = record { common = common_for l set manifest; games = game_of l start manifest; stamp = stamp_told l start manifest }
 
 -- the words of the start spell this position; or why they spell none; nothing happens for this
 pub data IsStart (text : List ℕ) (result : Result Parts (List ℕ)) (events : List Event) : Type 0 where
@@ -83,13 +83,14 @@ AsksIf true to server stamp events = IsRequestSpelled (request_at server stamp) 
 -- of a game with this stamp, where so many datagrams are answered together at most
 module _ {T P F K S L G : Type 0} (o : Outside T P F K S L) (facts : GamesFacts G) (l : Listen) (most : ℕ) (stamp : List ℕ) where
   module _ (server : Server G F) where
-    abbrev pub OpensTo : Server G F → Result (Unit {0}) OpenGameError → List Event → Type 0
-    OpensTo left told events = OpensUnasked o facts server left stamp told events
+    -- it leaves this server, and tells this
+    abbrev pub OpensLeaving : Server G F → Result (Unit {0}) OpenGameError → List Event → Type 0
+    OpensLeaving left told events = OpensUnasked o facts server left stamp told events
 
     -- it is opened over its record by these events, and no other one is; or it isn't
     pub data OpensGame (result : Result (Server G F) (List ℕ)) (events : List Event) : Type 0 where
-      GameIsOpen : (opened : Server G F) → OpensTo opened (Ok tt) events → result ≡ Ok opened → OpensGame result events
-      GameIsNotOpen : (why : OpenGameError) (left : Server G F) → OpensTo left (Err why) events → result ≡ Err (unopened_refusal why) → OpensGame result events
+      GameIsOpen : (opened : Server G F) → OpensLeaving opened (Ok tt) events → result ≡ Ok opened → OpensGame result events
+      GameIsNotOpen : (why : OpenGameError) (left : Server G F) → OpensLeaving left (Err why) events → result ≡ Err (unopened_refusal why) → OpensGame result events
 
   -- its request for moves goes out, where that is wanted, and then datagrams are answered
   pub record AsksAndAnswers (port : P) (server : Server G F) (events : List Event) (status : Option ℕ) : Type 0 where

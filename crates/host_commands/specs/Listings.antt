@@ -39,8 +39,8 @@ pub record LacksNames (disk : DiskFacts) (folder : List ℕ) (fault : ReadFault)
 
 module _ (disk : DiskFacts) (folder : List ℕ) (where_kept : StoreForm) where
   -- nothing bars it
-  abbrev pub IsClear : List (List ℕ) → Type 0
-  IsClear names = (what : List ℕ) → Clashes where_kept names what → ⊥
+  abbrev pub NothingBars : List (List ℕ) → Type 0
+  NothingBars names = (what : List ℕ) → Clashes where_kept names what → ⊥
 
   -- something does, and a line is noted that says so
   pub record IsBarredBy (what : List ℕ) (events : List Event) : Type 0 where
@@ -50,6 +50,6 @@ module _ (disk : DiskFacts) (folder : List ℕ) (where_kept : StoreForm) where
     pub notes : ThenMayNote (FolderListed folder (Ok names)) (clash_line folder what) events
 
   pub data ListsGames (result : Result (Unit {0}) (List ℕ)) (events : List Event) : Type 0 where
-    IsListed : (names : List (List ℕ)) → HasNames disk folder names events → IsClear names → result ≡ Ok tt → ListsGames result events
+    IsListed : (names : List (List ℕ)) → HasNames disk folder names events → NothingBars names → result ≡ Ok tt → ListsGames result events
     IsBarred : (what : List ℕ) → IsBarredBy what events → result ≡ Err refused_store → ListsGames result events
     IsNotListed : (fault : ReadFault) → LacksNames disk folder fault events → result ≡ Err (cut_words fault) → ListsGames result events

@@ -4,7 +4,6 @@ ghost use Rattle.std.specs.Prelude.{◌≡◌, [], string_bytes, IfOk, IsOk, OnE
 ghost use Rattle.std.specs.NonZero.{non_zero_usize_get};
 ghost use Rattle.answer_parts.specs.Printing.{OutputFails};
 ghost use Rattle.arbiter_server.specs.Games.{common_with};
-ghost use Rattle.arbiter_server.specs.LineLogs.{IsLogOf};
 ghost use Rattle.command_line.specs.Commands.Host.{named};
 ghost use Rattle.game_server.specs.Printing.{KnowsLines, OfGames, form_in};
 ghost use Rattle.game_server.specs.Seats.{AreSeats};

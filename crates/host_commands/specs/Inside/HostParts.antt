@@ -24,8 +24,8 @@ use Rattle.host_commands.specs.declared.hosting.HostPlan.{HostPlan}
 abbrev pub games_served : {G : Type 0} → GamesToServe G → GamesServed G
 games_served s = record { common = common_with s.config s.tables; games = s.games }
 
-abbrev pub common_of : Common → CommonView
-common_of common = common_with common.config common.tables
+abbrev pub common_held : Common → CommonView
+common_held common = common_with common.config common.tables
 
 module _ {T P F K S L G : Type 0} (o : Outside T P F K S L) (facts : GamesFacts G) (most n : ℕ) (to : List Recipient) (server : Server G F) where
   -- that the log is lost is noted, and datagrams are answered without it
@@ -67,10 +67,10 @@ module _ {T P F K S L G : Type 0} (o : Outside T P F K S L) (facts : GamesFacts 
 
 module _ {T P F K S L : Type 0} (o : Outside T P F K S L) where
   abbrev pub StoresIn : HostPlan → Common → T → T → Result ℕ WriteFault → Type 0
-  StoresIn plan common = HostDoes o plan.task.now (RunsStore o plan.task.now (common_of common) plan.read)
+  StoresIn plan common = HostDoes o plan.task.now (RunsStore o plan.task.now (common_held common) plan.read)
 
   abbrev pub KeepsIn : HostPlan → Common → T → T → Result ℕ WriteFault → Type 0
-  KeepsIn plan common = HostDoes o plan.task.now (RunsKept o plan.task.now plan.task.now.store (common_of common) plan.read)
+  KeepsIn plan common = HostDoes o plan.task.now (RunsKept o plan.task.now plan.task.now.store (common_held common) plan.read)
 
   abbrev pub LocksIn : HostPlan → Common → T → T → Result ℕ WriteFault → Type 0
-  LocksIn plan common = HostDoes o plan.task.now (LocksAndRuns o plan.task.now (common_of common) plan.read)
+  LocksIn plan common = HostDoes o plan.task.now (LocksAndRuns o plan.task.now (common_held common) plan.read)

@@ -43,12 +43,12 @@ GivesReadyLine own result = IsReadyLine own (line_taken result) []
 
 module _ {T P F K S L : Type 0} (o : Outside T P F K S L) (address to : List ℕ) where
   -- memory for several addresses was refused
-  abbrev pub LacksRoom : BindFault → List Event → Type 0
-  LacksRoom why events = (why ≡ bind.OutOfMemory) × (1 < length (addresses_of to)) × (events ≡ [])
+  abbrev pub LacksAddressRoom : BindFault → List Event → Type 0
+  LacksAddressRoom why events = (why ≡ bind.OutOfMemory) × (1 < length (addresses_of to)) × (events ≡ [])
 
   -- the system refused a port, or there was no room
   abbrev pub LacksPort : BindFault → List Event → Type 0
-  LacksPort why events = (o.refuses_port address why × (events ≡ port_asked o address to (Err why) ∷ [])) ⊎ LacksRoom why events
+  LacksPort why events = (o.refuses_port address why × (events ≡ port_asked o address to (Err why) ∷ [])) ⊎ LacksAddressRoom why events
 
   -- a port is asked for
   abbrev pub AsksForPort : Result P BindFault → List Event → Type 0
