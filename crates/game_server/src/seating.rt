@@ -44,7 +44,7 @@ fn open_over<'a, S: System, G: Games<S> + Drop>(
     requires game { IsGameOf shared.old.config.manifest.now kept.stamp game.name.items game.start game.delay }
     requires within { IsKeptIn (S.outside system.now) ((G.facts system.now).places ((G.facts system.now).place shared.old.games) kept.stamp) kept.file }
     requires clean { kept.draft.to_put ≡ None }
-    ensures made { AddsSome (S.outside system.now) timeline.old timeline.new (OpensOverKept (S.outside system.now) (G.facts system.now) shared.old shared.new kept game result) }
+    ensures made { let o = S.outside system.now in AddsSome o timeline.old timeline.new (OpensOverKept o (G.facts system.now) shared.old shared.new kept game result) }
 {
     let GameConfig { name, start, delay } = game;
     let terms = Terms {
@@ -73,7 +73,7 @@ fn open_found<'a, S: System, G: Games<S> + Drop>(
     game: GameConfig,
 ) -> Result<Seat<'a, S::File>, OpenGameError>
     requires { IsGameOf shared.old.config.manifest.now stamp game.name.items game.start game.delay }
-    ensures made { AddsSome (S.outside system.now) timeline.old timeline.new (OpensTaken (S.outside system.now) (G.facts system.now) shared.old shared.new stamp game result) }
+    ensures made { let o = S.outside system.now in AddsSome o timeline.old timeline.new (OpensTaken o (G.facts system.now) shared.old shared.new stamp game result) }
 {
     match shared.games.take(shared.alloc, system, timeline, stamp) {
         Ok(kept) => open_over(shared, system, timeline, kept, game),
