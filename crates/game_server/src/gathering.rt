@@ -1,9 +1,9 @@
 //! Datagrams that are answered together.
 
 ghost use Rattle.std.specs.Prelude.{◌≡◌, ◌<◌, ◌≤◌, IfOk, IfSome, false, length, Ok, None};
-ghost use Rattle.timeline.specs.Outsides.{AddsSome, SendsToSame};
+ghost use Rattle.timeline.specs.Outsides.{SendsToSame};
 ghost use Rattle.game_server.specs.Seats.{AreSeats};
-ghost use Rattle.game_server.specs.Inside.Running.{GathersFrom, HearsOne, ReceivesNext};
+ghost use Rattle.game_server.specs.Inside.Running.{GathersFrom, HearsOneIn, ReceivesNext};
 
 use crate::hearing::hear;
 use crate::replies::{Held, Replies};
@@ -48,7 +48,7 @@ fn hear_one<'a, S: System, G: Games<S> + Drop>(
 )
     requires seats { AreSeats (S.outside system.now) (G.facts system.now) server.old }
     requires room { length replies.old.held < replies.old.most }
-    ensures made { let o = S.outside system.now in AddsSome o timeline.old timeline.new (HearsOne o (G.facts system.now) server.old server.new bytes.now sender replies.old replies.new) }
+    ensures made { HearsOneIn (S.outside system.now) (G.facts system.now) server.old server.new bytes.now sender replies.old replies.new timeline.old timeline.new }
 {
     let reply = hear(server, system, timeline, bytes);
     replies.add(Held { reply, sender });

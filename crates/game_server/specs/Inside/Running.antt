@@ -80,6 +80,9 @@ pub record HearsOne {T P F K S L G : Type 0} (o : Outside T P F K S L) (facts : 
   pub from : held.sender ≡ sender
   pub holds : now ≡ record was { held = was.held ++ held ∷ [] }
 
+abbrev pub HearsOneIn : {T P F K S L G : Type 0} → Outside T P F K S L → GamesFacts G → Server G F → Server G F → List ℕ → Option SocketAddr → RepliesView → RepliesView → T → T → Type 0
+HearsOneIn o facts old new datagram sender was now t t' = AddsSome o t t' (HearsOne o facts old new datagram sender was now)
+
 -- what is held of a datagram that was heard
 abbrev pub AreHeld : List Heard → List Held → Type 0
 AreHeld [] [] = Unit {0}
