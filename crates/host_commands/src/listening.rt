@@ -5,7 +5,7 @@ ghost use Rattle.answer_parts.specs.Lines.{refusal_words};
 ghost use Rattle.answer_parts.specs.Printing.{OutputFails, Performs};
 ghost use Rattle.command_line.specs.Commands.Listen.{named};
 ghost use Rattle.game_server.specs.Seats.{AreSeats};
-ghost use Rattle.host_commands.specs.Inside.Parts.{AsksIn, BindsIn, LocksIn, OpensIn, RunsIn, StartsIn, TellsIn, served_one};
+ghost use Rattle.host_commands.specs.Inside.Parts.{AsksIfIn, BindsIn, LocksIn, OpensAndAnswersIn, RunsIn, StartsIn, TellsIn, served_one};
 ghost use Rattle.host_commands.specs.Listens.{Listens, ListensBy, ListensFrom, game_of, served_of, unopened_refusal};
 ghost use Rattle.task_files.specs.Sources.{named_by};
 ghost use Rattle.timeline.specs.Outsides.{AddsSome, HeardNothing};
@@ -64,7 +64,7 @@ fn ask_if<'a, S: System, G: Games<S> + Drop>(
     timeline: &mut S::Timeline,
 )
     ensures same { HeardNothing ((S.outside system.now).port port.old) ((S.outside system.now).port port.new) }
-    ensures made { AsksIn (S.outside system.now) is_wanted at.now port.old stamp timeline.old timeline.new }
+    ensures made { AsksIfIn (S.outside system.now) is_wanted at.now port.old stamp timeline.old timeline.new }
 {
     if is_wanted {
         ask(at, system, timeline, port, stamp);
@@ -83,7 +83,7 @@ fn open_and_serve<'a, S: System, G: Games<S> + Drop>(
 ) -> Result<u8, WriteFault>
     requires seats { AreSeats (S.outside system.now) (G.facts system.now) at.old.server }
     requires lines { at.old.lines ≡ Lines.OfOne stamp }
-    ensures made { OpensIn (S.outside system.now) (G.facts system.now) task.now stamp at.old port.old timeline.old timeline.new result }
+    ensures made { OpensAndAnswersIn (S.outside system.now) (G.facts system.now) task.now stamp at.old port.old timeline.old timeline.new result }
     ensures cause { OnErr result (OutputFails (S.outside system.now)) }
 {
     match open_game(at, system, timeline, stamp) {

@@ -71,8 +71,8 @@ abbrev pub DoesIn : {T P F K S L : Type 0} → Outside T P F K S L → Doing →
 DoesIn o Does t t' result = AddsSome o t t' (Performs Does result)
 
 module _ {T P F K S L G : Type 0} (o : Outside T P F K S L) where
-  abbrev pub AsksIn : Bool → PortServer G F → P → List ℕ → T → T → Type 0
-  AsksIn is_wanted at port stamp t t' = AddsSome o t t' (AsksIf is_wanted (address_of (o.port port)) at.server stamp)
+  abbrev pub AsksIfIn : Bool → PortServer G F → P → List ℕ → T → T → Type 0
+  AsksIfIn is_wanted at port stamp t t' = AddsSome o t t' (AsksIf is_wanted (address_of (o.port port)) at.server stamp)
 
 module _ {T P F K S L G : Type 0} (o : Outside T P F K S L) (facts : GamesFacts G) where
   -- so many datagrams of a port are answered
@@ -80,8 +80,8 @@ module _ {T P F K S L G : Type 0} (o : Outside T P F K S L) (facts : GamesFacts 
   AnswersIn n at port = DoesIn o (AnswersAll o facts at.replies.most n (o.port port).to (form_in at.lines) at.server)
 
   -- after the game with this stamp was opened
-  abbrev pub OpensIn : Listen → List ℕ → PortServer G F → P → T → T → Result ℕ WriteFault → Type 0
-  OpensIn l stamp at port = DoesIn o (OpensAndAnswers o facts l at.replies.most stamp port at.server)
+  abbrev pub OpensAndAnswersIn : Listen → List ℕ → PortServer G F → P → T → T → Result ℕ WriteFault → Type 0
+  OpensAndAnswersIn l stamp at port = DoesIn o (OpensAndAnswers o facts l at.replies.most stamp port at.server)
 
   abbrev pub RunsIn : Listen → OneToServe G → P → T → T → Result ℕ WriteFault → Type 0
   RunsIn l served port = DoesIn o (RunsOne o facts l (served_one served) port)
