@@ -1,6 +1,9 @@
 -- What happens outside for a task that is answered once (this project's own).
 use Rattle.std.specs.Prelude.{◌≡◌, ℕ, List, Option, Some, None, Result, Ok, Err, option_map}
 use Rattle.command_line.specs.declared.commands.Task.{Task}
+use Rattle.command_line.specs.declared.commands.serve.Serve.{Serve}
+use Rattle.host_commands.specs.Hosts.{Hosts}
+use Rattle.host_commands.specs.Listens.{Listens}
 use Rattle.command_line.specs.declared.commands.Task.TheVariants as task
 use Rattle.timeline.specs.Events.{Event}
 use Rattle.timeline.specs.Outsides.{AddsSome, Outside}
@@ -46,16 +49,20 @@ answered_once (task.Status t) = Some (answer.Status t)
 answered_once (task.GameRecord t) = Some (answer.GameRecord t)
 answered_once (task.AuditGames t) = Some (answer.AuditGames t)
 answered_once (task.Send t) = Some (answer.Send t)
-answered_once _ = None
+answered_once (task.Listen t) = Some (answer.Listen t)
+answered_once (task.Host t) = Some (answer.Host t)
+answered_once (task.Serve t) = None
 
--- a task is one of these, or it isn't
-abbrev pub IsOnce : Task → Result AnswerTask Task → Type 0
+-- a task is one of these, or that of `serve`
+abbrev pub IsOnce : Task → Result AnswerTask Serve → Type 0
 IsOnce t (Ok once) = answered_once t ≡ Some once
-IsOnce t (Err other) = (answered_once t ≡ None) × (other ≡ t)
+IsOnce t (Err serve) = t ≡ task.Serve serve
 
 -- the path of the file of keys that it names, if it does
 abbrev pub key_of : AnswerTask → Option (List ℕ)
 key_of (answer.Send t) = option_map (λ s. s.now) t.key
+key_of (answer.Listen t) = option_map (λ s. s.now) t.key
+key_of (answer.Host t) = option_map (λ s. s.now) t.key
 key_of _ = None
 
 -- what the command does, up to the output's end: these events, with this status
@@ -74,6 +81,8 @@ Does o (answer.Status t) events status = ReportsStatus o t events status
 Does o (answer.GameRecord t) events status = PrintsGameRecord o t events status
 Does o (answer.AuditGames t) events status = AuditsGames o t events status
 Does o (answer.Send t) events status = SendsInput o t events status
+Does o (answer.Listen t) events status = Listens o t events status
+Does o (answer.Host t) events status = Hosts o t events status
 
 -- so it is answered over what is known outside: what it does, and then the output's end
 abbrev pub Answers : {T P F K S L : Type 0} → AnswerTask → Outside T P F K S L → T → T → ℕ → Type 0

@@ -17,10 +17,11 @@ use crate::sending::send;
 use crate::show::show_input;
 use crate::version::print_version;
 use command_line::{
-    Audit, AuditGames, Check, Enter, GameRecord, List, Moves, RunSchedule, Send, ShowRecord,
-    ShowStatus, Task,
+    Audit, AuditGames, Check, Enter, GameRecord, HostGames, List, Listen, Moves, RunSchedule, Send,
+    Serve, ShowRecord, ShowStatus, Task,
 };
 use game_reports::{print_audit, print_game_record, report_status};
+use host_commands::{host_games, listen};
 use std::alloc::Global;
 use system_io::WriteFault;
 use timeline::System;
@@ -56,11 +57,15 @@ pub enum AnswerTask<'a> {
     AuditGames(AuditGames<'a>),
     /// The moves of the input, which are sent.
     Send(Send<'a>),
+    /// An arbiter of one game, at a port.
+    Listen(Listen<'a>),
+    /// Arbiters of the games of a folder, at a port.
+    Host(HostGames<'a>),
 }
 
 impl<'a> AnswerTask<'a> {
-    /// The task, if it is one that is answered here; else it comes back.
-    pub fn of(task: Task<'a>) -> Result<AnswerTask<'a>, Task<'a>>
+    /// The task, if it is one that is answered here; else it is that of `serve`.
+    pub fn of(task: Task<'a>) -> Result<AnswerTask<'a>, Serve<'a>>
         ensures { IsOnce task.entry result }
     {
         match task {
@@ -85,7 +90,9 @@ impl<'a> AnswerTask<'a> {
             Task::GameRecord(record) => Ok(AnswerTask::GameRecord(record)),
             Task::AuditGames(audit) => Ok(AnswerTask::AuditGames(audit)),
             Task::Send(send) => Ok(AnswerTask::Send(send)),
-            other => Err(other),
+            Task::Listen(listen) => Ok(AnswerTask::Listen(listen)),
+            Task::Host(host) => Ok(AnswerTask::Host(host)),
+            Task::Serve(serve) => Err(serve),
         }
     }
 
@@ -95,6 +102,8 @@ impl<'a> AnswerTask<'a> {
     {
         match self {
             AnswerTask::Send(task) => task.key,
+            AnswerTask::Listen(task) => task.key,
+            AnswerTask::Host(task) => task.key,
             _ => None,
         }
     }
@@ -125,6 +134,8 @@ fn answer_task<S: System>(
         AnswerTask::GameRecord(task) => print_game_record(alloc, task, system, timeline),
         AnswerTask::AuditGames(task) => print_audit(alloc, task, system, timeline),
         AnswerTask::Send(task) => send(alloc, task, system, timeline),
+        AnswerTask::Listen(task) => listen(alloc, task, system, timeline),
+        AnswerTask::Host(task) => host_games(alloc, task, system, timeline),
     }
 }
 

@@ -48,6 +48,7 @@ mod earlier;
 mod entering;
 mod entries;
 mod keeping;
+mod keys;
 mod list;
 mod moves;
 mod printing;
@@ -63,4 +64,5 @@ mod version;
 
 pub use answering::AnswerTask;
 pub use by_tables::TableTask;
+pub use printing::end;
 pub use sealing::answer;

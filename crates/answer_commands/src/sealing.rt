@@ -1,15 +1,16 @@
 //! Tasks whose ports are sealed by the keys of a file.
 
 ghost use Rattle.std.specs.Prelude.{◌≡◌, option_map, string_bytes, IfOk, OnErr};
-ghost use Rattle.answer_commands.specs.Sealed.{AnswersByKey, AnswersSealed, NotesKeys, RefusesKeys, line_at_fault, noted_if, shared_key};
+ghost use Rattle.answer_commands.specs.Sealed.{AnswersByKey, AnswersSealed, NotesKeys, RefusesKeys, line_at_fault, shared_key};
 ghost use Rattle.answer_parts.specs.Printing.{OutputFails, Performs};
-ghost use Rattle.timeline.specs.Outsides.{Adds, AddsSome};
+ghost use Rattle.timeline.specs.Outsides.{AddsSome};
 
 use crate::answering::{AnswerTask, answer_bare};
+use crate::keys::read_keys;
 use crate::printing::end;
 use answer_parts::{Refusal, print_refusal};
+use host_commands::note_line;
 use sealed_port::KeyedSystem;
-use serve_commands::read_keys;
 use std::alloc::{AllocError, Global};
 use system_io::WriteFault;
 use timeline::System;
@@ -26,19 +27,6 @@ fn fault_line(alloc: Global, path: &str, number: usize) -> Result<String, AllocE
     ensures { IfOk result (λ line. string_bytes line ≡ line_at_fault path.now number) }
 {
     format!(in alloc; "{path}: line {number} is no key")
-}
-
-/// Notes a line, unless memory for it was refused.
-pub(crate) fn note_line<S: System>(
-    system: &S,
-    timeline: &mut S::Timeline,
-    line: Result<String, AllocError>,
-)
-    ensures { Adds (S.outside system.now) timeline.old timeline.new (noted_if line) }
-{
-    if let Ok(line) = line {
-        system.note(timeline, line.as_str());
-    }
 }
 
 /// Notes which file of keys is refused, and why, where memory for the line isn't refused. Of one that can't be read the system has said so.

@@ -9,6 +9,11 @@ returns-in-NoOption g c = rw c.in-NoOption.is c.tell_name.ensures
 pub returns-in-NoWord : goal.returns-in-NoWord
 returns-in-NoWord g c = rw c.in-NoWord.is c.tell_name-in-NoWord.ensures
 
+pub returns-in-Unfit : goal.returns-in-Unfit
+returns-in-Unfit g c =
+    let told = rw (c.front.ensures, c.rest.ensures) at c.tell_name-in-Unfit.ensures in
+    rw c.in-Unfit.is told
+
 pub returns-in-NotWith : goal.returns-in-NotWith
 returns-in-NotWith g c =
     let name = c.in-NotWith.option.now in
