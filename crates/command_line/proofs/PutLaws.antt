@@ -1,9 +1,9 @@
 -- What is written piece by piece.
-use Rattle.std.proofs.Common.{◌≡◌, ◌<◌, ◌++◌, ◌∙◌, ℕ, suc, List, [], ◌∷◌, length, take, drop, map, take-append-drop, append_assoc, append-nil, get_or, subst, take-suc, sym, ap, inl, inr, refl}
+use Rattle.std.proofs.Common.{◌≡◌, ◌<◌, ◌+◌, ◌++◌, ◌∙◌, ℕ, suc, List, [], ◌∷◌, length, take, drop, map, take-append-drop, append_assoc, append-nil, get_or, subst, sym, ap, inl, inr, refl}
 use Rattle.std.specs.Prelude.{Result, Ok, Err, OnErr, OnOk, false}
 use Rattle.std.specs.List.{flat_map}
 use Rattle.std.proofs.lemmas.Bool.{cond-false}
-use Rattle.std.proofs.lemmas.List.{map-append}
+use Rattle.std.proofs.lemmas.List.{map-append, take_more}
 use Rattle.hex.specs.Hex.{encode_lower}
 use Rattle.std.proofs.lemmas.Grind.{flat_map-append}
 use Rattle.std.proofs.Math.Seq.{split_at}
@@ -122,13 +122,13 @@ module _ {T P F K S L : Type 0} (o : Outside T P F K S L) where
   -- ---- words
 
   -- words of which some are written, and one byte more
-  pub shown_more : (a b c : T) (words : List ℕ) (i : ℕ) → i < length words → Writes o a b (shown_bytes (take i words)) → Writes o b c (shown_byte (get_or words i 0)) → Writes o a c (shown_bytes (take (suc i) words))
+  pub shown_more : (a b c : T) (words : List ℕ) (i : ℕ) → i < length words → Writes o a b (shown_bytes (take i words)) → Writes o b c (shown_byte (get_or words i 0)) → Writes o a c (shown_bytes (take (i + 1) words))
   shown_more a b c words i lt p q =
       let front = take i words in
       let byte = get_or words i 0 in
       let one : shown_bytes (byte ∷ []) ≡ shown_byte byte = append-nil (shown_byte byte) in
       let parts : shown_bytes (front ++ byte ∷ []) ≡ shown_bytes front ++ shown_byte byte = flat_map-append shown_byte front (byte ∷ []) ∙ ap (λ (l : List ℕ). shown_bytes front ++ l) one in
-      subst (λ (l : List ℕ). Writes o a c l) (sym (ap shown_bytes (take-suc words i 0 lt) ∙ parts)) (both_written a b c (shown_bytes front) (shown_byte byte) p q)
+      subst (λ (l : List ℕ). Writes o a c l) (sym (ap shown_bytes (take_more words i 0 lt) ∙ parts)) (both_written a b c (shown_bytes front) (shown_byte byte) p q)
 
   -- or the next byte is cut off
   pub cut_in : (a b c : T) (words : List ℕ) (i : ℕ) → i < length words → Writes o a b (shown_bytes (take i words)) → Cuts o b c (shown_byte (get_or words i 0)) → Cuts o a c (shown_bytes words)

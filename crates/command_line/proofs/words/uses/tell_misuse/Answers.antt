@@ -1,7 +1,6 @@
-use Rattle.std.proofs.Common.{◌++◌, ◌∙◌, [], ap, append-nil, codes, inl, inr, refl}
-use Rattle.std.specs.Prelude.{None, Some}
-use Rattle.command_line.specs.Misuses.{fault_words}
-use Rattle.command_line.specs.Uses.{behind_line, help_head, help_line, shown_line}
+use Rattle.std.proofs.Common.{◌++◌, ◌∙◌, [], ap, append-nil, codes, inl, inr, refl, sym}
+use Rattle.std.specs.Prelude.{None}
+use Rattle.command_line.specs.Uses.{behind_line, shown_line}
 use Rattle.command_line.specs.Inside.Putting.{hinted}
 use Rattle.command_line.specs.declared.words.usage.Misuse.TheVariants as misuse
 use Rattle.command_line.proofs.NearLaws.{command_told, option_told}
@@ -32,7 +31,7 @@ returns-in-UnknownCommand g c =
 
 pub returns-in-DisplayHelp : goal.returns-in-DisplayHelp
 returns-in-DisplayHelp g c =
-    rw c.in-Refused.is (tells_so (g.S.System.outside c.args.system.now) _ _ (misuse.Refused c.in-Refused.name c.in-Refused.error) _ (inl (c.kind.ensures ∙ c.in-DisplayHelp.is, (c.tell_help_of-in-DisplayHelp.ensures.0, refl))) c.tell_help_of-in-DisplayHelp.ensures.1)
+    rw c.in-Refused.is (tells_so (g.S.System.outside c.args.system.now) _ _ (misuse.Refused c.in-Refused.name c.in-Refused.error) _ (inl (sym c.kind.ensures ∙ c.in-DisplayHelp.is, (c.tell_help_of-in-DisplayHelp.ensures.0, refl))) c.tell_help_of-in-DisplayHelp.ensures.1)
 
 pub returns-in_default : goal.returns-in_default
 returns-in_default g c =
