@@ -1,8 +1,7 @@
 //! The words of the adjudicator's command line: the task that they name, or what is wrong with them.
 //!
-//! `parse` makes a task of the words. `Task::places` names what is read for it before it is answered, `Task::tables` the folder of its
-//! tables, `Task::key` its file of keys. `tell_misuse` writes what is wrong with the words, or the help that they ask for. Nothing is read
-//! here; the crates above answer.
+//! `parse` makes a task of the words. Where all that a task names is read before it is answered, its `places` has that. `tell_misuse` writes
+//! what is wrong with the words, or the help that they ask for. Nothing is read here; the crates above answer.
 //!
 //! Inside: each command is a file in `commands/`, with the struct of its values, what help says of it, and its definitions in the file of
 //! the same name in `specs/Commands/`; `options` has the values that several of them take. What the commands take is told once, in their
@@ -21,7 +20,7 @@
 //!   command's or that of an option of the command, and the line that names help, of the command where there is one, and then all goes out;
 //!   or a front of these, where a write is refused or they can't go out. Nothing else happens. Where there is no word the list of commands stands behind the line, and where help is asked for, it alone, or help of
 //!   the command, which begins with its name: of that list, and of what stands behind the name, no clause speaks.
-//! - CLAIM: `Task::tables`; `Task::key`; `Task::places`: which folder of tables, which file of keys and which places a task names.
+//! - CLAIM: `Judge::places` and its like: which places a task names.
 //! - CLAIM: `CacheSize::of`, clauses `some`, `none`: the number of `--cache` is read exactly where it is decimal digits, perhaps after a
 //!   plus, in its range. So is that of `--delay`, by the private `delay_of` of `numbers`.
 #![tactic(auto)]
