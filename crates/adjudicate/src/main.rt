@@ -68,11 +68,7 @@ fn status_of(rt: &HostRuntime) -> Result<u8, AllocError> {
     let stores = MachineStores::new(rt);
     let (host, history) = SystemHost::new(rt, rt.stderr(), &stores);
     let (same_host, _) = SystemHost::new(rt, rt.stderr(), &stores);
-    let machine = Machine::new(
-        SystemDisk::new(rt, rt.stderr()),
-        SystemInput::new(rt),
-        host,
-    );
+    let machine = Machine::new(SystemDisk::new(rt, rt.stderr()), SystemInput::new(rt), host);
     let mut timeline = MachineTimeline::new(
         history,
         BufferedOutput::new(alloc, io::writer(rt))?,

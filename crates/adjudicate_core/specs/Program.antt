@@ -4,7 +4,7 @@ use Rattle.std.specs.Borrow.{Bor}
 use Rattle.std.specs.Global.{Global}
 use Rattle.adjudicate_core.specs.Beside.{BesideView, ServesBeside}
 use Rattle.adjudicate_core.specs.Misusing.{RefusesMemory, TellsAndEnds}
-use Rattle.answer_commands.specs.Answers.{answered_once}
+use Rattle.answer_commands.specs.Answers.{over_timeline}
 use Rattle.answer_commands.specs.Sealed.{AnswersByKey}
 use Rattle.answer_commands.specs.declared.answering.AnswerTask.{AnswerTask}
 use Rattle.command_line.specs.Tasks.{IsMisuse, IsTask, NamesNoCommand}
@@ -32,7 +32,7 @@ called_by (Err fault) = Err fault
 
 -- a task is answered over the timeline, and beside it nothing changes; or it is `serve`, which is answered beside it, and nothing happens on it
 pub data AnswersEither {T P F K S L : Type 0} (o : Outside T P F K S L) (before after : T) (beside : BesideView) (t : Task) (status : ℕ) : Type 0 where
-  OverTimeline : (once : AnswerTask) → answered_once t ≡ Some once → AnswersByKey once o before after status → beside.rests → AnswersEither o before after beside t status
+  OverTimeline : (over : AnswerTask) → over_timeline t ≡ Some over → AnswersByKey over o before after status → beside.rests → AnswersEither o before after beside t status
   BesideTimeline : (s : Serve) → t ≡ task.Serve s → ServesBeside beside s status → after ≡ before → AnswersEither o before after beside t status
 
 -- what the program makes of the words after its own name: the answer to the task that they name; or they are misused; or memory was refused

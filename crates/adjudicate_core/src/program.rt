@@ -28,7 +28,7 @@ fn answer_either<S: System, D: Disk, H: Host, G: Pages, W: Output + Drop>(
     ensures { AnswersEither (S.outside system.now) timeline.old timeline.new (beside_seen D.facts W.contents W.facts beside.old beside.new) task.entry result }
 {
     match AnswerTask::of(task) {
-        Ok(once) => answer(alloc, &once, system, timeline),
+        Ok(task) => answer(alloc, &task, system, timeline),
         Err(serve) => serve_beside(alloc, &serve, beside),
     }
 }

@@ -1,7 +1,7 @@
-//! Tasks that are answered once.
+//! Tasks that are answered over the timeline: all but `serve`.
 
 ghost use Rattle.std.specs.Prelude.{◌≡◌, option_map, OnErr};
-ghost use Rattle.answer_commands.specs.Answers.{Answers, Does, IsOnce, key_of};
+ghost use Rattle.answer_commands.specs.Answers.{Answers, Does, IsOverTimeline, key_of};
 ghost use Rattle.answer_parts.specs.Printing.{OutputFails, Performs};
 ghost use Rattle.timeline.specs.Outsides.{AddsSome};
 
@@ -26,7 +26,7 @@ use std::alloc::Global;
 use system_io::WriteFault;
 use timeline::System;
 
-/// A task that is answered once.
+/// A task that is answered over the timeline.
 #[derive(Drop)]
 pub enum AnswerTask<'a> {
     /// The program's version.
@@ -66,7 +66,7 @@ pub enum AnswerTask<'a> {
 impl<'a> AnswerTask<'a> {
     /// The task, if it is one that is answered here; else it is that of `serve`.
     pub fn of(task: Task<'a>) -> Result<AnswerTask<'a>, Serve<'a>>
-        ensures { IsOnce task.entry result }
+        ensures { IsOverTimeline task.entry result }
     {
         match task {
             Task::Version(_) => Ok(AnswerTask::Version),

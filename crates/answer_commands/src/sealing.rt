@@ -97,7 +97,8 @@ fn answer_sealed<S: System>(
 /// - for `enter` the list, where there is one, and then the manifest or, as for `list`, the files of the folder of tables. Each game is kept,
 ///   and its line printed, before the next one;
 /// - for `status`, `audit` of folders and `record` of a game the folders of games, the records of their stores, and then file by file;
-/// - for `send` the game's file, or the manifest as for `enter`, and then the input, line by line as moves are acknowledged.
+/// - for `send` the game's file, or the manifest as for `enter`, and then the input, line by line as moves are acknowledged;
+/// - for `listen` and `host` the manifest and the files of the folder of tables, and then as games are opened.
 ///
 /// What can't be read is `refused files`; where memory is refused the line is `refused memory`. Progress goes to standard error where it is
 /// wanted, and of `send` two lines where an arbiter doesn't answer. At last all that was written goes out. Nothing else happens outside.
