@@ -20,7 +20,7 @@
 //!   command's or that of an option of the command, and the line that names help, of the command where there is one, and then all goes out;
 //!   or a front of these, where a write is refused or they can't go out. Nothing else happens. Where there is no word the list of commands stands behind the line, and where help is asked for, it alone, or help of
 //!   the command, which begins with its name: of that list, and of what stands behind the name, no clause speaks.
-//! - CLAIM: `Judge::places` and its like: which places a task names.
+//! - CLAIM: `Judge::places`; `Listen::places`; `HostGames::places`: which places a task names; so is each other `places`.
 //! - CLAIM: `CacheSize::of`, clauses `some`, `none`: the number of `--cache` is read exactly where it is decimal digits, perhaps after a
 //!   plus, in its range. So is that of `--delay`, by the private `delay_of` of `numbers`.
 #![tactic(auto)]
