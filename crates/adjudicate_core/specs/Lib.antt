@@ -1,4 +1,3 @@
-pub mod Makes
-pub mod Running
+pub mod Misusing
 pub mod Beside
 pub mod Program

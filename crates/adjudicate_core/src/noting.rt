@@ -2,17 +2,17 @@
 
 use move_msg::is_file_name;
 use std::alloc::Global;
-use system_io::{Disk, FileWithMode, Host, LineDisk, ReadFault};
+use system_io::{Disk, FileWithMode, Host, ReadFault};
 
-/// A disk over another one. A host is told where the folder of a task's tables is listed and has no file of a table.
+/// A disk over another one. A host is told where the folder of the tables is listed and has no file of a table.
 #[derive(Drop)]
 pub(crate) struct TablesNoted<'a, D, H> {
     /// The other disk.
     pub(crate) disk: &'a D,
     /// The host.
     pub(crate) host: &'a H,
-    /// The folder of the tables, if the task has one.
-    pub(crate) tables: Option<&'a str>,
+    /// The folder of the tables.
+    pub(crate) tables: &'a str,
 }
 
 /// Whether one of these names is that of a table's file.
@@ -28,7 +28,7 @@ fn has_table(names: &[String]) -> bool {
 impl<'a, D: Disk, H: Host> TablesNoted<'a, D, H> {
     /// Notes that a folder has no table, where it is that of the tables and these are its names.
     fn note_names(&self, alloc: Global, folder: &str, names: &[String]) {
-        if self.tables != Some(folder) || has_table(names) {
+        if self.tables != folder || has_table(names) {
             return;
         }
         if let Ok(line) = format!(in alloc; "no table in {folder}") {
@@ -71,13 +71,5 @@ impl<'a, D: Disk, H: Host> Disk for TablesNoted<'a, D, H> {
         most: u64,
     ) -> Result<FileWithMode, ReadFault> {
         self.disk.read_with_mode(alloc, path, most)
-    }
-}
-
-impl<'a, D: LineDisk, H: Host> LineDisk for TablesNoted<'a, D, H> {
-    type Lines = D::Lines;
-
-    fn lines(&self, alloc: Global, path: &str) -> Result<D::Lines, ReadFault> {
-        self.disk.lines(alloc, path)
     }
 }

@@ -12,6 +12,7 @@ pub mod EarlierLaws
 pub mod StampLaws
 pub mod EntryLaws
 pub mod EnterLaws
+pub mod KeyReadLaws
 pub mod SealLaws
 pub mod SentLaws
 pub mod SendLaws

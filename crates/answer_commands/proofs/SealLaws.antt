@@ -2,8 +2,9 @@
 use Rattle.std.proofs.Common.{◌≡◌, ◌∷◌, ◌++◌, [], ℕ, List, Some, refl, subst}
 use Rattle.std.specs.Prelude.{Result, Ok, Err, IfOk, String, string_bytes}
 use Rattle.std.specs.Global.{Global}
-use Rattle.answer_commands.specs.Sealed.{IsNoted, NotNoted, NotesKeys, RefusesKeys, key_note, noted_if}
+use Rattle.answer_commands.specs.Sealed.{IsNoted, NotNoted, NotesKeys, RefusesKeys, key_note}
 use Rattle.answer_parts.proofs.PrintLaws.{then_prints}
+use Rattle.host_commands.specs.Notes.{noted_if}
 use Rattle.answer_parts.specs.Lines.{refusal_words}
 use Rattle.answer_parts.specs.Printing.{Performs, Prints}
 use Rattle.answer_parts.specs.declared.answers.refusals.Refusal.{Refusal}

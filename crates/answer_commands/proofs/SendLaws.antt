@@ -1,16 +1,12 @@
 -- What `send` does, one thing after another.
 use Rattle.std.proofs.Common.{◌≡◌, ◌∙◌, ◌∷◌, ◌++◌, [], ℕ, List, Option, Some, None, ap, append_assoc, inl, inr, refl, subst, sym}
-use Rattle.std.specs.Prelude.{Result, Ok, Err, IfErr, IfOk, String, string_bytes, true, false, ◌<◌, length}
-use Rattle.std.specs.Global.{Global}
+use Rattle.std.specs.Prelude.{Result, Ok, Err, true, false}
 use Rattle.answer_commands.specs.Inside.Sending.{IsCut, IsOut, IsStuck, WritesSecond}
-use Rattle.answer_commands.specs.Sealed.{noted_if}
 use Rattle.answer_commands.specs.SentGames.{ReadsSent}
-use Rattle.answer_commands.specs.Sending.{AddressNoted, AddressNotNoted, AreOfInput, AreTerms, BindsPort, BothOut, BothStuck, FirstCut, IsBound, IsPortOf, IsUnbound, NoGame, NoPort, NoRoomForAddresses, NoRoomForLines, NoRoomToBind, NotBound, NotesUnbound, OfGame, OverPort, Ran, RefusesPort, RunsAt, RunsOn, SecondCut, SendsAt, SendsFrom, SendsInput, TellsSilent, WritesSilence, silence_a, silence_b, unbound_line}
+use Rattle.answer_commands.specs.Sending.{AreOfInput, AreTerms, BothOut, BothStuck, FirstCut, NoGame, NoRoomForLines, OfGame, Ran, RunsAt, RunsOn, SecondCut, SendsAt, SendsFrom, SendsInput, TellsSilent, WritesSilence, silence_a, silence_b}
 use Rattle.answer_commands.specs.declared.sent_game.GameSent.{GameSent}
-use Rattle.answer_parts.proofs.PrintLaws.{cut_behind, does_so, then_does, then_prints}
+use Rattle.answer_parts.proofs.PrintLaws.{cut_behind, then_does, then_prints}
 use Rattle.answer_parts.specs.Printing.{AtFlush, AtWrite, IsCutIn, Performs, Prints}
-use Rattle.arbiter_server.specs.ServedLines.{refused_port}
-use Rattle.command_line.specs.Addresses.{addresses_of}
 use Rattle.command_line.specs.declared.commands.send.Send.{Send}
 use Rattle.line_teller.specs.ToldLines.{refused_memory}
 use Rattle.board_core.specs.declared.parts.Parts.{Parts}
@@ -22,13 +18,11 @@ use Rattle.source_core.specs.declared.known.Known.{Known}
 use Rattle.source_core.specs.declared.lines.Ended.{Ended}
 use Rattle.source_core.specs.declared.lines.Ended.TheVariants as run
 use Rattle.source_core.specs.declared.turn.SendConfig.{SendConfig}
-use Rattle.system_io.specs.declared.host.BindFault.{BindFault}
-use Rattle.system_io.specs.declared.host.BindFault.TheVariants as bind
 use Rattle.system_io.specs.declared.output.WriteFault.{WriteFault}
 use Rattle.system_io.specs.declared.reading.ReadFault.{ReadFault}
-use Rattle.timeline.proofs.EventLaws.{adds_more, adds_none}
-use Rattle.timeline.specs.Events.{Event, Flushed, FromInput, IsWritten, LinesOpened, Noted, PortBound, Refused, Wrote, by_result, done_by}
-use Rattle.timeline.specs.Outsides.{Adds, AddsSome, AreNamed, Outside}
+use Rattle.timeline.proofs.EventLaws.{adds_more}
+use Rattle.timeline.specs.Events.{Event, Flushed, FromInput, IsWritten, LinesOpened, Refused, Wrote, by_result}
+use Rattle.timeline.specs.Outsides.{Adds, AddsSome, Outside}
 use Rattle.timeline.specs.declared.stream.Stream.TheVariants.{Errors, Output}
 
 -- ---- who was silent
@@ -113,42 +107,7 @@ cut_at o a b c t game port lines terms fault input on p q = (
 pub no_lines : {T P F K S L : Type 0} (o : Outside T P F K S L) (a b c : T) (t : Send) (game : GameSent) (port : P) (r : Result ℕ WriteFault) → o.input.takes_memory → Adds o a b (LinesOpened FromInput false ∷ []) → AddsSome o b c (Performs (Prints (refused_memory ∷ []) 1) r) → AddsSome o a c (Performs (SendsAt o t game port) r)
 no_lines o a b c t game port r memory p q = then_prints o a b c (LinesOpened FromInput false ∷ []) (SendsAt o t game port) (refused_memory ∷ []) 1 r (NoRoomForLines memory refl refl) p q
 
--- ---- its port
-
--- it is asked for
-pub bound_by : {T P F K S L : Type 0} (o : Outside T P F K S L) (a b : T) (t : Send) (all : List (List ℕ)) (r : Result P BindFault) → addresses_of t.to.now ≡ all
-    → IfOk r (λ port. (o.port port).address ≡ t.bind.now) → IfOk r (λ port. AreNamed (o.port port).own all (o.port port).to) → IfErr r (o.refuses_port t.bind.now)
-    → Adds o a b (PortBound t.bind.now all (done_by r) ∷ []) → AddsSome o a b (BindsPort o t r)
-bound_by o a b t all (Ok port) is at each why p =
-    let named : AreNamed (o.port port).own (addresses_of t.to.now) (o.port port).to = subst (λ words. AreNamed (o.port port).own words (o.port port).to) (sym is) each in
-    let made : Adds o a b (PortBound t.bind.now (addresses_of t.to.now) (Ok tt) ∷ []) = subst (λ words. Adds o a b (PortBound t.bind.now words (Ok tt) ∷ [])) (sym is) p in
-    (PortBound t.bind.now (addresses_of t.to.now) (Ok tt) ∷ [], made, IsBound port (record { at = at; to = named }) refl refl)
-bound_by o a b t all (Err fault) is at each why p =
-    let made : Adds o a b (PortBound t.bind.now (addresses_of t.to.now) (Err fault) ∷ []) = subst (λ words. Adds o a b (PortBound t.bind.now words (Err fault) ∷ [])) (sym is) p in
-    (PortBound t.bind.now (addresses_of t.to.now) (Err fault) ∷ [], made, NotBound fault why refl refl)
-
-pub no_addresses : {T P F K S L : Type 0} (o : Outside T P F K S L) (a : T) (t : Send) → 1 < length (addresses_of t.to.now) → AddsSome o a a (BindsPort o t (Err bind.OutOfMemory))
-no_addresses o a t many = ([], adds_none o a, NoRoomForAddresses many refl refl)
-
-pub no_room_to_bind : {T P F K S L : Type 0} (o : Outside T P F K S L) (a b : T) (address : List ℕ) (r : Result ℕ WriteFault) → AddsSome o a b (Performs (Prints (refused_memory ∷ []) 1) r) → AddsSome o a b (Performs (RefusesPort address bind.OutOfMemory) r)
-no_room_to_bind o a b address r p = does_so o a b (Prints (refused_memory ∷ []) 1) (RefusesPort address bind.OutOfMemory) r (λ (events : List Event) (status : Option ℕ) (h : Prints (refused_memory ∷ []) 1 events status). NoRoomToBind refl h.0 h.1) p
-
--- it can't be bound, which is noted if the line could be made
-pub port_refused : {T P F K S L E : Type 0} (o : Outside T P F K S L) (a b c : T) (address : List ℕ) (line : Result (String Global) E) (r : Result ℕ WriteFault) → IfOk line (λ l. string_bytes l ≡ unbound_line address)
-    → Adds o a b (noted_if line) → AddsSome o b c (Performs (Prints (refused_port ∷ []) 1) r) → AddsSome o a c (Performs (RefusesPort address bind.Unbound) r)
-port_refused o a b c address line r is p q = then_prints o a b c (noted_if line) (RefusesPort address bind.Unbound) (refused_port ∷ []) 1 r (IsUnbound refl (noted_if line) (noted line is) refl refl) p q
-  where
-    noted : {E : Type 0} (line : Result (String Global) E) → IfOk line (λ l. string_bytes l ≡ unbound_line address) → NotesUnbound address (noted_if line)
-    noted (Ok l) is = AddressNoted (ap (λ (w : List ℕ). Noted w ∷ []) is)
-    noted (Err e) is = AddressNotNoted refl
-
 -- ---- all of it
-
-pub sends_over : {T P F K S L : Type 0} (o : Outside T P F K S L) (a b c : T) (t : Send) (game : GameSent) (port : P) (r : Result ℕ WriteFault) → AddsSome o a b (BindsPort o t (Ok port)) → AddsSome o b c (Performs (SendsAt o t game port) r) → AddsSome o a c (Performs (SendsFrom o t game) r)
-sends_over o a b c t game port r p q = then_does o a b c p.0 (SendsAt o t game port) (SendsFrom o t game) r (λ (events : List Event) (status : Option ℕ) (h : SendsAt o t game port events status). OverPort port p.0 events p.2 h refl) p.1 q
-
-pub sends_nowhere : {T P F K S L : Type 0} (o : Outside T P F K S L) (a b c : T) (t : Send) (game : GameSent) (why : BindFault) (r : Result ℕ WriteFault) → AddsSome o a b (BindsPort o t (Err why)) → AddsSome o b c (Performs (RefusesPort t.bind.now why) r) → AddsSome o a c (Performs (SendsFrom o t game) r)
-sends_nowhere o a b c t game why r p q = then_does o a b c p.0 (RefusesPort t.bind.now why) (SendsFrom o t game) r (λ (events : List Event) (status : Option ℕ) (h : RefusesPort t.bind.now why events status). NoPort why p.0 events p.2 h refl) p.1 q
 
 pub sends_game : {T P F K S L : Type 0} (o : Outside T P F K S L) (a b c : T) (t : Send) (game : GameSent) (r : Result ℕ WriteFault) → AddsSome o a b (ReadsSent o.disk t t.game (Ok game)) → AddsSome o b c (Performs (SendsFrom o t game) r) → AddsSome o a c (Performs (SendsInput o t) r)
 sends_game o a b c t game r p q = then_does o a b c p.0 (SendsFrom o t game) (SendsInput o t) r (λ (events : List Event) (status : Option ℕ) (h : SendsFrom o t game events status). OfGame game p.0 events p.2 h refl) p.1 q

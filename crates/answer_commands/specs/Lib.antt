@@ -18,5 +18,6 @@ pub mod Enter
 pub mod SentGames
 pub mod Sending
 pub mod Answers
+pub mod KeyReads
 pub mod Sealed
 pub mod Inside

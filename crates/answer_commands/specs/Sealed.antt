@@ -1,7 +1,6 @@
 -- Tasks whose ports are sealed by the keys of a file (this project's own).
-use Rattle.std.specs.Prelude.{◌≡◌, ◌++◌, ℕ, List, [], ◌∷◌, Option, Some, None, Result, Ok, Err, String, codes, string_bytes}
+use Rattle.std.specs.Prelude.{◌≡◌, ◌++◌, ℕ, List, [], ◌∷◌, Option, Some, None, Result, Ok, Err, codes}
 use Rattle.std.specs.Fmt.{decimal}
-use Rattle.std.specs.Global.{Global}
 use Rattle.answer_commands.specs.Answers.{Answers, key_of}
 use Rattle.answer_commands.specs.Endings.{Ends}
 use Rattle.answer_commands.specs.declared.answering.AnswerTask.{AnswerTask}
@@ -11,7 +10,7 @@ use Rattle.answer_parts.specs.declared.answers.refusals.Refusal.{Refusal}
 use Rattle.answer_parts.specs.declared.answers.refusals.Refusal.TheVariants as refusal
 use Rattle.sealed_port.specs.KeyedSystems.{keyed_outside}
 use Rattle.sealed_port.specs.declared.seal_port.Keys.{Keys}
-use Rattle.serve_commands.specs.KeyReads.{ReadsKeys}
+use Rattle.answer_commands.specs.KeyReads.{ReadsKeys}
 use Rattle.timeline.specs.Events.{Event, Noted}
 use Rattle.timeline.specs.Outsides.{AddsSome, Outside}
 
@@ -28,11 +27,6 @@ abbrev pub key_note : List ℕ → Refusal → Option (List ℕ)
 key_note path refusal.SharedKey = Some (shared_key path)
 key_note path (refusal.Key number) = Some (line_at_fault path number)
 key_note path _ = None
-
--- a line is noted, unless memory for it was refused
-abbrev pub noted_if : {E : Type 0} → Result (String Global) E → List Event
-noted_if (Ok line) = Noted (string_bytes line) ∷ []
-noted_if (Err e) = []
 
 -- it is noted, unless memory for the line was refused, which isn't known here
 pub data NotesKeys (path : List ℕ) (why : Refusal) (events : List Event) : Type 0 where

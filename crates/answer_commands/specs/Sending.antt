@@ -1,13 +1,13 @@
 -- `send`: the moves of the input are sent (this project's own).
-use Rattle.std.specs.Prelude.{◌≡◌, ◌*◌, ◌<◌, ◌++◌, ◌==◌, ◌&&◌, not, cond, is_some, ℕ, Bool, true, false, List, [], ◌∷◌, Option, Some, None, Result, Ok, Err, IfSome, codes, length, take}
+use Rattle.std.specs.Prelude.{◌≡◌, ◌*◌, ◌++◌, ◌==◌, ◌&&◌, not, cond, is_some, ℕ, Bool, true, false, List, [], ◌∷◌, Option, Some, None, Result, Ok, Err, IfSome, codes, take}
 use Rattle.std.specs.Duration.{as_nanos}
 use Rattle.std.specs.Fmt.{decimal}
 use Rattle.answer_commands.specs.SentGames.{ReadsSent}
 use Rattle.answer_commands.specs.declared.sent_game.GameSent.{GameSent}
 use Rattle.answer_parts.specs.Printing.{printed}
-use Rattle.arbiter_server.specs.ServedLines.{refused_port}
-use Rattle.command_line.specs.Addresses.{addresses_of}
 use Rattle.command_line.specs.declared.commands.send.Send.{Send}
+use Rattle.host_commands.specs.Binds.{BindsPort}
+use Rattle.host_commands.specs.Steps.{ThenOrRefused}
 use Rattle.line_teller.specs.ToldLines.{refused_memory}
 use Rattle.move_msg.specs.TextLines.{ended}
 use Rattle.move_msg.specs.declared.stamp.Stamp.{Stamp}
@@ -21,10 +21,8 @@ use Rattle.source_core.specs.declared.known.Reported.{Reported}
 use Rattle.source_core.specs.declared.lines.Ended.{Ended}
 use Rattle.source_core.specs.declared.lines.Ended.TheVariants as run
 use Rattle.source_core.specs.declared.turn.SendConfig.{SendConfig}
-use Rattle.system_io.specs.declared.host.BindFault.{BindFault}
-use Rattle.system_io.specs.declared.host.BindFault.TheVariants as bind
-use Rattle.timeline.specs.Events.{Event, Flushed, FromInput, LinesOpened, Noted, PortBound, Refused, Wrote}
-use Rattle.timeline.specs.Outsides.{AreNamed, FailsOrIsKnown, Outside}
+use Rattle.timeline.specs.Events.{Event, Flushed, FromInput, LinesOpened, Refused, Wrote}
+use Rattle.timeline.specs.Outsides.{FailsOrIsKnown, Outside}
 use Rattle.timeline.specs.declared.stream.Stream.TheVariants.{Errors}
 
 -- ---- who was silent
@@ -84,36 +82,9 @@ pub data SendsAt {T P F K S L : Type 0} (o : Outside T P F K S L) (t : Send) (ga
   RunsOn : (lines : L) → AreOfInput o lines → (terms : SendConfig) → AreTerms t game.stamp terms → (running : List Event) → RunsAt o terms game port lines running None → events ≡ LinesOpened FromInput true ∷ running → status ≡ None → SendsAt o t game port events status
   NoRoomForLines : o.input.takes_memory → events ≡ LinesOpened FromInput false ∷ printed (refused_memory ∷ []) → status ≡ Some 1 → SendsAt o t game port events status
 
--- ---- its port
-
--- it is bound to the address of the words, and sends to each of theirs
-pub record IsPortOf {T P F K S L : Type 0} (o : Outside T P F K S L) (t : Send) (port : P) : Type 0 where
-  pub at : (o.port port).address ≡ t.bind.now
-  pub to : AreNamed (o.port port).own (addresses_of t.to.now) (o.port port).to
-
--- a port is bound; or why it can't be; or memory for several addresses was refused, of which no cause is known
-pub data BindsPort {T P F K S L : Type 0} (o : Outside T P F K S L) (t : Send) (result : Result P BindFault) (events : List Event) : Type 0 where
-  IsBound : (port : P) → IsPortOf o t port → result ≡ Ok port → events ≡ PortBound t.bind.now (addresses_of t.to.now) (Ok tt) ∷ [] → BindsPort o t result events
-  NotBound : (why : BindFault) → o.refuses_port t.bind.now why → result ≡ Err why → events ≡ PortBound t.bind.now (addresses_of t.to.now) (Err why) ∷ [] → BindsPort o t result events
-  NoRoomForAddresses : 1 < length (addresses_of t.to.now) → result ≡ Err bind.OutOfMemory → events ≡ [] → BindsPort o t result events
-
-abbrev pub unbound_line : List ℕ → List ℕ
-unbound_line address = address ++ codes " can't be bound"
-
--- that it can't be bound is noted, unless memory for the line was refused, which isn't known here
-pub data NotesUnbound (address : List ℕ) (events : List Event) : Type 0 where
-  AddressNoted : events ≡ Noted (unbound_line address) ∷ [] → NotesUnbound address events
-  AddressNotNoted : events ≡ [] → NotesUnbound address events
-
--- the address is noted, and the port is refused; or memory was
-pub data RefusesPort (address : List ℕ) (why : BindFault) (events : List Event) (status : Option ℕ) : Type 0 where
-  IsUnbound : why ≡ bind.Unbound → (noting : List Event) → NotesUnbound address noting → events ≡ noting ++ printed (refused_port ∷ []) → status ≡ Some 1 → RefusesPort address why events status
-  NoRoomToBind : why ≡ bind.OutOfMemory → events ≡ printed (refused_memory ∷ []) → status ≡ Some 1 → RefusesPort address why events status
-
--- the port is bound, and the moves are sent there; or it isn't
-pub data SendsFrom {T P F K S L : Type 0} (o : Outside T P F K S L) (t : Send) (game : GameSent) (events : List Event) (status : Option ℕ) : Type 0 where
-  OverPort : (port : P) (binding rest : List Event) → BindsPort o t (Ok port) binding → SendsAt o t game port rest status → events ≡ binding ++ rest → SendsFrom o t game events status
-  NoPort : (why : BindFault) (binding rest : List Event) → BindsPort o t (Err why) binding → RefusesPort t.bind.now why rest status → events ≡ binding ++ rest → SendsFrom o t game events status
+-- the port is bound to the address of the words, to send to each of theirs, and the moves are sent there; or it isn't
+abbrev pub SendsFrom : {T P F K S L : Type 0} → Outside T P F K S L → Send → GameSent → List Event → Option ℕ → Type 0
+SendsFrom o t game = ThenOrRefused (BindsPort o t.bind.now t.to.now) (SendsAt o t game)
 
 -- ---- all of it
 

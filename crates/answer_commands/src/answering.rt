@@ -1,7 +1,7 @@
-//! Tasks that are answered once.
+//! Tasks that are answered over the timeline: all but `serve`.
 
 ghost use Rattle.std.specs.Prelude.{◌≡◌, option_map, OnErr};
-ghost use Rattle.answer_commands.specs.Answers.{Answers, Does, IsOnce, key_of};
+ghost use Rattle.answer_commands.specs.Answers.{Answers, Does, IsOverTimeline, key_of};
 ghost use Rattle.answer_parts.specs.Printing.{OutputFails, Performs};
 ghost use Rattle.timeline.specs.Outsides.{AddsSome};
 
@@ -17,15 +17,16 @@ use crate::sending::send;
 use crate::show::show_input;
 use crate::version::print_version;
 use command_line::{
-    Audit, AuditGames, Check, Enter, GameRecord, List, Moves, RunSchedule, Send, ShowRecord,
-    ShowStatus, Task,
+    Audit, AuditGames, Check, Enter, GameRecord, HostGames, List, Listen, Moves, RunSchedule, Send,
+    Serve, ShowRecord, ShowStatus, Task,
 };
 use game_reports::{print_audit, print_game_record, report_status};
+use host_commands::{host_games, listen};
 use std::alloc::Global;
 use system_io::WriteFault;
 use timeline::System;
 
-/// A task that is answered once.
+/// A task that is answered over the timeline.
 #[derive(Drop)]
 pub enum AnswerTask<'a> {
     /// The program's version.
@@ -56,12 +57,16 @@ pub enum AnswerTask<'a> {
     AuditGames(AuditGames<'a>),
     /// The moves of the input, which are sent.
     Send(Send<'a>),
+    /// An arbiter of one game, at a port.
+    Listen(Listen<'a>),
+    /// Arbiters of the games of a folder, at a port.
+    Host(HostGames<'a>),
 }
 
 impl<'a> AnswerTask<'a> {
-    /// The task, if it is one that is answered here; else it comes back.
-    pub fn of(task: Task<'a>) -> Result<AnswerTask<'a>, Task<'a>>
-        ensures { IsOnce task.entry result }
+    /// The task, if it is one that is answered here; else it is that of `serve`.
+    pub fn of(task: Task<'a>) -> Result<AnswerTask<'a>, Serve<'a>>
+        ensures { IsOverTimeline task.entry result }
     {
         match task {
             Task::Version(_) => Ok(AnswerTask::Version),
@@ -85,7 +90,9 @@ impl<'a> AnswerTask<'a> {
             Task::GameRecord(record) => Ok(AnswerTask::GameRecord(record)),
             Task::AuditGames(audit) => Ok(AnswerTask::AuditGames(audit)),
             Task::Send(send) => Ok(AnswerTask::Send(send)),
-            other => Err(other),
+            Task::Listen(listen) => Ok(AnswerTask::Listen(listen)),
+            Task::Host(host) => Ok(AnswerTask::Host(host)),
+            Task::Serve(serve) => Err(serve),
         }
     }
 
@@ -95,6 +102,8 @@ impl<'a> AnswerTask<'a> {
     {
         match self {
             AnswerTask::Send(task) => task.key,
+            AnswerTask::Listen(task) => task.key,
+            AnswerTask::Host(task) => task.key,
             _ => None,
         }
     }
@@ -125,6 +134,8 @@ fn answer_task<S: System>(
         AnswerTask::GameRecord(task) => print_game_record(alloc, task, system, timeline),
         AnswerTask::AuditGames(task) => print_audit(alloc, task, system, timeline),
         AnswerTask::Send(task) => send(alloc, task, system, timeline),
+        AnswerTask::Listen(task) => listen(alloc, task, system, timeline),
+        AnswerTask::Host(task) => host_games(alloc, task, system, timeline),
     }
 }
 

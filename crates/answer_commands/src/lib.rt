@@ -1,5 +1,5 @@
 //! The commands over one timeline: `version`, `show`, `moves`, `run`, `record`, `audit`, `list`, `check`, `judge`, `probe`, `probes`, `root`,
-//! `game`, `games`, `pgn`, `follow`, `status`, `enter` and `send`.
+//! `game`, `games`, `pgn`, `follow`, `status`, `enter`, `send`, `listen` and `host`.
 //!
 //! `answer` does all that such a command does outside: it reads what the task names, writes the answer, sees to it that all goes out, and
 //! returns the status, 0 done or 1 refused. The contract has every event, in order, and says that there is no other one. Where the output
@@ -8,19 +8,21 @@
 //! Inside: a file for each command that is made here. The others are done elsewhere: `record` and `audit` reply by what `record_commands`
 //! makes of what was read; `judge`, `probe`, `root FEN` and `game` by what `table_commands` makes of it, which may read tables meanwhile
 //! (`replying`); the commands that answer lines, `pgn` and `follow` are done by `table_commands`, and `status` and what is asked of all games
-//! by `game_reports`. `answers` has an answer before it is written, `printing` lines, refusals and the output's end, `answering` all of them, `by_tables` those by tables.
+//! by `game_reports`; `listen` and `host` by `host_commands`. `answers` has an answer before it is written, `printing` lines, refusals and the output's end, `answering` all of them, `by_tables` those by tables.
 //! Of `enter` there are `entries` (the lines of a list), `stamping` (the manifest), `keeping` (a game's file) and `earlier` (the note on a
-//! game that was there before), and `entering` (the command); of `send` `sent_game` (the game) and `sending` (its port, the run of
-//! `send_moves` of source_core, and who was silent). `sealing` reads the file of keys, where there is one, and answers over sealed ports.
+//! game that was there before), and `entering` (the command); of `send` `sent_game` (the game) and `sending` (the run of
+//! `send_moves` of source_core at its port, and who was silent). `keys` reads a file of keys, and `sealing` answers over ports that are sealed
+//! by them.
 //!
-//! Definitions, in reading order: `Printing` (`Prints`, `IsCutIn`, `Performs`, `Closes`, `Ends`), `Inputs`, `Version`, `Show`, `Moves`, `Run`,
+//! Definitions, in reading order: `Endings` (`Closes`, `Ends`), `Inputs`, `Version`, `Show`, `Moves`, `Run`,
 //! `Replies` (`RepliesTo`), `Records`, `TableReplies`, `Listing`, `Check`; of `enter` `Stamping`, `Keeping` (`KeepsText`),
 //! `Earlier` (`NotesEarlier`), `Entries`, `Enter` (`KeepsGame`, `EntersGames`); of `send` `SentGames`, `Sending` (`SendsInput`); `Answers`
-//! (`Does`, `Answers`), `Sealed` (`AnswersByKey`).
+//! (`Does`, `Answers`), `KeyReads` (`ReadsKeys`), `Sealed` (`AnswersByKey`).
 //!
 //! - CLAIM: `answer`: what a command names is read once, before anything is written to the output; but `enter`, `status` and what is asked of
 //!   all games read file by file, and the commands that answer lines, and `send`, line by line. Nothing is written to the errors but progress,
 //!   where it is wanted, and of `send` who was silent; nothing else happens outside. An error of the output leaves a front of these events.
+//! - CLAIM: `answer`: `listen` and `host` do what `listen` and `host_games` of `host_commands` say.
 //! - CLAIM: `answer`: `version` and `moves` read nothing. `show` answers want of memory only where reading the input takes some, `moves` and
 //!   `audit` only for a text that is a position, `record` only for what is laid out as a record.
 //! - CLAIM: `answer`: `run` reads its folder before the input. It refuses what can't be read first, then the first malformed line of the
@@ -35,7 +37,8 @@
 //!   game's file. Then its port is bound, and the moves of the input are sent as `send_moves` of source_core has it: a line goes out before
 //!   the next line of the input is read. Where an arbiter doesn't answer, two lines on standard error say so, and the status is 1.
 //! - CLAIM: `answer`: where a file of keys is named, it is read before all else, and what happens then is so as it is seen through ports that are
-//!   sealed by them (`keyed_outside` of sealed_port); or why it has none is noted, written, and nothing else is done.
+//!   sealed by them (`keyed_outside` of sealed_port); or why it has none is noted, written, and nothing else is done. That is the first of:
+//!   it can't be read as a regular file of at most 130 bytes; its group or others have some right; its first malformed line.
 //! - CLAIM: `answer`: what is answered by tables reads what it names once, in order. Where tables are read when they are asked for, their
 //!   folder is listed once after that, and then the file of each table that a position misses is read once; of no other.
 #![tactic(auto)]
@@ -48,6 +51,7 @@ mod earlier;
 mod entering;
 mod entries;
 mod keeping;
+mod keys;
 mod list;
 mod moves;
 mod printing;
@@ -63,4 +67,5 @@ mod version;
 
 pub use answering::AnswerTask;
 pub use by_tables::TableTask;
+pub use printing::end;
 pub use sealing::answer;

@@ -57,7 +57,7 @@ fn note_lost<S: System>(system: &S, timeline: &mut S::Timeline) -> u8
 
 /// Lets all that was written go out, and returns the program's status: that of what was answered, or 1 where a write was refused or what
 /// was written can't go out, which is noted.
-pub(crate) fn end<S: System>(
+pub fn end<S: System>(
     system: &S,
     timeline: &mut S::Timeline,
     answered: Result<u8, WriteFault>,

@@ -1,15 +1,16 @@
 //! Tasks whose ports are sealed by the keys of a file.
 
 ghost use Rattle.std.specs.Prelude.{◌≡◌, option_map, string_bytes, IfOk, OnErr};
-ghost use Rattle.answer_commands.specs.Sealed.{AnswersByKey, AnswersSealed, NotesKeys, RefusesKeys, line_at_fault, noted_if, shared_key};
+ghost use Rattle.answer_commands.specs.Sealed.{AnswersByKey, AnswersSealed, NotesKeys, RefusesKeys, line_at_fault, shared_key};
 ghost use Rattle.answer_parts.specs.Printing.{OutputFails, Performs};
-ghost use Rattle.timeline.specs.Outsides.{Adds, AddsSome};
+ghost use Rattle.timeline.specs.Outsides.{AddsSome};
 
 use crate::answering::{AnswerTask, answer_bare};
+use crate::keys::read_keys;
 use crate::printing::end;
 use answer_parts::{Refusal, print_refusal};
+use host_commands::note_line;
 use sealed_port::KeyedSystem;
-use serve_commands::read_keys;
 use std::alloc::{AllocError, Global};
 use system_io::WriteFault;
 use timeline::System;
@@ -26,19 +27,6 @@ fn fault_line(alloc: Global, path: &str, number: usize) -> Result<String, AllocE
     ensures { IfOk result (λ line. string_bytes line ≡ line_at_fault path.now number) }
 {
     format!(in alloc; "{path}: line {number} is no key")
-}
-
-/// Notes a line, unless memory for it was refused.
-pub(crate) fn note_line<S: System>(
-    system: &S,
-    timeline: &mut S::Timeline,
-    line: Result<String, AllocError>,
-)
-    ensures { Adds (S.outside system.now) timeline.old timeline.new (noted_if line) }
-{
-    if let Ok(line) = line {
-        system.note(timeline, line.as_str());
-    }
 }
 
 /// Notes which file of keys is refused, and why, where memory for the line isn't refused. Of one that can't be read the system has said so.
@@ -109,7 +97,8 @@ fn answer_sealed<S: System>(
 /// - for `enter` the list, where there is one, and then the manifest or, as for `list`, the files of the folder of tables. Each game is kept,
 ///   and its line printed, before the next one;
 /// - for `status`, `audit` of folders and `record` of a game the folders of games, the records of their stores, and then file by file;
-/// - for `send` the game's file, or the manifest as for `enter`, and then the input, line by line as moves are acknowledged.
+/// - for `send` the game's file, or the manifest as for `enter`, and then the input, line by line as moves are acknowledged;
+/// - for `listen` and `host` the manifest and the files of the folder of tables, and then as games are opened.
 ///
 /// What can't be read is `refused files`; where memory is refused the line is `refused memory`. Progress goes to standard error where it is
 /// wanted, and of `send` two lines where an arbiter doesn't answer. At last all that was written goes out. Nothing else happens outside.

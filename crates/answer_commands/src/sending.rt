@@ -1,26 +1,26 @@
 //! `send`: the source of a game, which sends the moves of the input.
 
-ghost use Rattle.std.specs.Prelude.{◌≡◌, ◌≤◌, ◌++◌, ◌*◌, length, string_bytes, IfOk, OnErr};
+ghost use Rattle.std.specs.Prelude.{◌≡◌, ◌≤◌, ◌++◌, ◌*◌, length, OnErr};
 ghost use Rattle.std.specs.Duration.{as_nanos};
 ghost use Rattle.answer_commands.specs.Inside.Sending.{WritesSecond};
-ghost use Rattle.answer_commands.specs.Sending.{BindsPort, RefusesPort, SendsAt, SendsFrom, SendsInput, TellsSilent, WritesSilence, is_silent, silence_words, unbound_line};
+ghost use Rattle.answer_commands.specs.Sending.{SendsAt, SendsFrom, SendsInput, TellsSilent, WritesSilence, is_silent, silence_words};
 ghost use Rattle.answer_parts.specs.Printing.{OutputFails, Performs};
 ghost use Rattle.move_notation.specs.Notations.{notation_by};
 ghost use Rattle.source_core.specs.Lines.{ended_status};
 ghost use Rattle.source_core.specs.Origins.{origin_by};
 ghost use Rattle.timeline.specs.Outsides.{AddsSome};
 
-use crate::sealing::note_line;
 use crate::sent_game::{GameSent, game_of};
-use answer_parts::{Refusal, print_refusal, print_unread};
-use command_line::{Send, addresses_in, is_one};
+use answer_parts::{print_refusal, print_unread};
+use command_line::Send;
+use host_commands::bind;
 use line_teller::LineWords;
 use move_msg::Stamp;
 use move_notation::Notation;
 use source_core::{Ended, GameToSend, Known, Origin, Reported, SendConfig, send_moves};
-use std::alloc::{AllocError, Global};
+use std::alloc::Global;
 use std::time::Duration;
-use system_io::{BindFault, ReadFault, WriteFault};
+use system_io::{ReadFault, WriteFault};
 use timeline::{Stream, System};
 
 /// Whether an arbiter has acknowledged no move and reported no verdict.
@@ -123,51 +123,6 @@ fn send_at<S: System>(
     }
 }
 
-/// Binds a port to an address that sends to the addresses of a word, separated by commas. A single address takes no memory here.
-fn bind<S: System>(
-    alloc: Global,
-    task: &Send<'_>,
-    system: &S,
-    timeline: &mut S::Timeline,
-) -> Result<S::Port, BindFault>
-    ensures { AddsSome (S.outside system.now) timeline.old timeline.new (BindsPort (S.outside system.now) task.now result) }
-{
-    if is_one(task.to) {
-        return system.bind(timeline, alloc, task.bind, &[task.to]);
-    }
-    let Ok(addresses) = addresses_in(alloc, task.to) else {
-        return Err(BindFault::OutOfMemory);
-    };
-    system.bind(timeline, alloc, task.bind, &addresses)
-}
-
-/// The line that says that an address can't be bound. The error comes only where memory is refused.
-fn unbound_words(alloc: Global, address: &str) -> Result<String, AllocError>
-    ensures { IfOk result (λ line. string_bytes line ≡ unbound_line address.now) }
-{
-    format!(in alloc; "{address} can't be bound")
-}
-
-/// Notes and writes why the address isn't bound, and returns the status 1.
-fn refuse_port<S: System>(
-    alloc: Global,
-    task: &Send<'_>,
-    fault: BindFault,
-    system: &S,
-    timeline: &mut S::Timeline,
-) -> Result<u8, WriteFault>
-    ensures made { AddsSome (S.outside system.now) timeline.old timeline.new (Performs (RefusesPort task.now.bind.now fault) result) }
-    ensures cause { OnErr result (OutputFails (S.outside system.now)) }
-{
-    match fault {
-        BindFault::Unbound => {
-            note_line(system, timeline, unbound_words(alloc, task.bind));
-            print_refusal(system, timeline, Refusal::Port)
-        }
-        BindFault::OutOfMemory => print_refusal(system, timeline, Refusal::Memory),
-    }
-}
-
 /// Binds the address that the words name, sends from there, and returns the status.
 fn send_from<S: System>(
     alloc: Global,
@@ -179,9 +134,9 @@ fn send_from<S: System>(
     ensures made { AddsSome (S.outside system.now) timeline.old timeline.new (Performs (SendsFrom (S.outside system.now) task.now game) result) }
     ensures cause { OnErr result (OutputFails (S.outside system.now)) }
 {
-    match bind(alloc, task, system, timeline) {
+    match bind(alloc, system, timeline, task.bind, task.to) {
         Ok(port) => send_at(alloc, task, game, port, system, timeline),
-        Err(fault) => refuse_port(alloc, task, fault, system, timeline),
+        Err(refusal) => print_refusal(system, timeline, refusal),
     }
 }
 

@@ -5,7 +5,6 @@ pub mod Tasks
 pub mod Misuses
 pub mod Usage
 pub mod Uses
-pub mod Putting
 pub mod Addresses
 pub mod GamePaths
 pub mod LazyFolders

@@ -1,8 +1,7 @@
 -- Commands and tasks: a list for each thing that the program asks of a command (this project's own).
-use Rattle.std.specs.Prelude.{◌≡◌, ◌⊎◌, Bool, false, List, [], ◌∷◌, Option, Some, None, Result, Ok, Err, codes, drop, option_map, slice_get}
+use Rattle.std.specs.Prelude.{◌≡◌, ◌⊎◌, List, [], ◌∷◌, Option, Some, None, Result, Ok, Err, codes, drop, slice_get}
 use Rattle.clap.specs.Words.{App, IsAmong, Rule, Text, kind_of, new_app}
 use Rattle.command_line.specs.Rules.{argument_value, with_rules, words_fault}
-use Rattle.task_files.specs.Sources.{Named}
 use Rattle.command_line.specs.Commands.Judge as judges
 use Rattle.command_line.specs.Commands.Probe as probes
 use Rattle.command_line.specs.Commands.Moves as of_moves
@@ -167,67 +166,6 @@ HasTaskValues value (task.Root t) = roots.HasValues value t
 HasTaskValues value (task.Follow t) = follows.HasValues value t
 HasTaskValues value (task.Status t) = statuses.HasValues value t
 HasTaskValues value (task.Serve t) = serves.HasValues value t
-
--- what is read for it
-abbrev pub named_in : Task → Named
-named_in (task.Judge t) = judges.named t
-named_in (task.Probe t) = probes.named t
-named_in (task.Moves t) = of_moves.named t
-named_in (task.List t) = lists.named
-named_in (task.Check t) = checks.named
-named_in (task.Show t) = shows.named
-named_in (task.Run t) = runs.named t
-named_in (task.Listen t) = listens.named t
-named_in (task.Probes t) = of_probes.named t
-named_in (task.Game t) = games.named t
-named_in (task.Games t) = of_games.named t
-named_in (task.Pgn t) = of_pgn.named t
-named_in (task.Record t) = records.named t
-named_in (task.GameRecord t) = game_records.named
-named_in (task.Audit t) = audits.named t
-named_in (task.AuditGames t) = game_audits.named t
-named_in (task.Version t) = versions.named
-named_in (task.Send t) = sends.named
-named_in (task.Enter t) = enters.named
-named_in (task.Host t) = hosts.named t
-named_in (task.Root t) = roots.named t
-named_in (task.Follow t) = follows.named t
-named_in (task.Status t) = statuses.named
-named_in (task.Serve t) = serves.named
-
--- the file of keys that it names, if it does
-abbrev pub key_in : Task → Option Text
-key_in (task.Listen t) = option_map (λ s. s.now) t.key
-key_in (task.Send t) = option_map (λ s. s.now) t.key
-key_in (task.Host t) = option_map (λ s. s.now) t.key
-key_in _ = None
-
--- the folder of tables that it names, if it does
-abbrev pub tables_in : Task → Option Text
-tables_in (task.Judge t) = option_map (λ s. s.now) t.tables
-tables_in (task.Probe t) = Some t.tables.now
-tables_in (task.Moves t) = None
-tables_in (task.List t) = Some t.folder.now
-tables_in (task.Check t) = Some t.folder.now
-tables_in (task.Show t) = None
-tables_in (task.Run t) = option_map (λ s. s.now) t.tables
-tables_in (task.Listen t) = Some t.tables.now
-tables_in (task.Probes t) = Some t.tables.now
-tables_in (task.Game t) = option_map (λ s. s.now) t.tables
-tables_in (task.Games t) = Some t.tables.now
-tables_in (task.Pgn t) = Some t.tables.now
-tables_in (task.Record t) = None
-tables_in (task.GameRecord t) = None
-tables_in (task.Audit t) = Some t.tables.now
-tables_in (task.AuditGames t) = Some t.tables.now
-tables_in (task.Version t) = None
-tables_in (task.Send t) = sends.tables_of t.game
-tables_in (task.Enter t) = Some t.tables.now
-tables_in (task.Host t) = Some t.tables.now
-tables_in (task.Root t) = Some t.tables.now
-tables_in (task.Follow t) = option_map (λ s. s.now) t.tables
-tables_in (task.Status t) = None
-tables_in (task.Serve t) = Some t.tables.now
 
 -- ---- words
 

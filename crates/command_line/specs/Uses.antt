@@ -1,19 +1,20 @@
 -- What is printed for a misuse: one line, perhaps a near word, and the line that names help (this project's own).
-use Rattle.std.specs.Prelude.{◌≡◌, ◌≢◌, ◌≤◌, ◌<◌, ◌*◌, ◌⊎◌, ◌++◌, ◌==◌, ◌&&◌, not, nat_le, cond, ℕ, Bool, List, [], ◌∷◌, length, Option, Some, None, codes}
+use Rattle.std.specs.Prelude.{◌≡◌, ◌≢◌, ◌≤◌, ◌<◌, ◌*◌, ◌⊎◌, ◌++◌, ◌==◌, ◌&&◌, not, nat_le, cond, ℕ, Bool, List, [], ◌∷◌, length, Option, Some, None, codes, map}
 use Rattle.std.specs.List.{Contains, flat_map}
 use Rattle.std.specs.Str.{chars}
 use Rattle.strsim.specs.Edits.{osa_table}
-use Rattle.std.specs.Io.KnownBytes.{Appends}
 use Rattle.hex.specs.Hex.{encode_lower}
 use Rattle.clap.specs.Words.{Rule, Text, kind_of}
 use Rattle.clap.specs.declared.error.kind.ErrorKind.TheVariants.{DisplayHelp}
 use Rattle.move_msg.specs.TextLines.{ended}
-use Rattle.system_io.specs.Outputs.{OutputFacts}
 use Rattle.command_line.specs.declared.words.usage.Misuse.{Misuse}
 use Rattle.command_line.specs.declared.words.usage.Misuse.TheVariants as misuse
 use Rattle.command_line.specs.Misuses.{fault_words}
 use Rattle.command_line.specs.Tasks.{command_rules, command_word}
 use Rattle.command_line.specs.declared.commands.Name.{Name}
+use Rattle.timeline.specs.Events.{Event, Flushed, Refused, Wrote}
+use Rattle.timeline.specs.Outsides.{Outside}
+use Rattle.timeline.specs.declared.stream.Stream.TheVariants.{Errors}
 
 -- ---- words as they are told
 
@@ -95,30 +96,35 @@ IsToldSo (misuse.Refused command e) text =
     ((kind_of e ≡ DisplayHelp) × IsHelpOf command text) ⊎ ((kind_of e ≢ DisplayHelp) × ((words : List ℕ) × IsToldAs (misuse.Refused command e) (Some command) (shown_line words) text))
 IsToldSo (misuse.Value command fault) text = IsToldAs (misuse.Value command fault) (Some command) (shown_line (fault_words fault)) text
 
--- ---- on an output
+-- ---- on standard error
 
--- it can't take more: a write is refused, or what was written can't go out
-abbrev pub TakesNoMore : OutputFacts → Type 0
-TakesNoMore out = out.refuses ⊎ out.stuck
+-- a text is written, in some pieces
+pub record WritesText (text : List ℕ) (events : List Event) : Type 0 where
+  pub pieces : List (List ℕ)
+  pub whole : flat_map (λ piece. piece) pieces ≡ text
+  pub written : events ≡ map (Wrote Errors) pieces
 
--- the output couldn't take the text to its end: at a moment on the way it could take no more, and a front of the text was written
-pub record CutsOff {E : Type 0} (facts : E → OutputFacts) (contents : E → Option (List ℕ)) (old new : E) (text : List ℕ) : Type 0 where
-  pub at : E
-  pub before : List ℕ
-  pub reached : Appends (contents old) (contents at) before
-  pub closed : TakesNoMore (facts at)
+-- at a moment standard error can take no more: a write may be refused, or what was written can't go out
+abbrev pub TakesNoMore : {T P F K S L : Type 0} → Outside T P F K S L → Type 0
+TakesNoMore {T} o = (t : T) × ((o.output t Errors).refuses ⊎ (o.output t Errors).stuck)
+
+-- a front of the text is written, and then no more, since a write was refused, or what was written can't go out
+pub record CutsOff {T P F K S L : Type 0} (o : Outside T P F K S L) (text : List ℕ) (events : List Event) : Type 0 where
   pub front : List ℕ
   pub rest : List ℕ
   pub is : text ≡ front ++ rest
-  pub written : Appends (contents old) (contents new) front
+  pub before : List Event
+  pub written : WritesText front before
+  pub all : events ≡ before ++ Refused Errors ∷ []
+  pub cause : TakesNoMore o
 
--- the text was written, and has gone out; or the output couldn't take it
-pub data GoesOut {E : Type 0} (facts : E → OutputFacts) (contents : E → Option (List ℕ)) (old new : E) (text : List ℕ) : Type 0 where
-  Gone : Appends (contents old) (contents new) text → (facts new).gone → GoesOut facts contents old new text
-  CutOff : CutsOff facts contents old new text → GoesOut facts contents old new text
+-- the text is written, and has gone out at the moment after it; or it is cut off
+pub data GoesOut {T P F K S L : Type 0} (o : Outside T P F K S L) (after : T) (text : List ℕ) (events : List Event) : Type 0 where
+  Gone : (before : List Event) → WritesText text before → (o.output after Errors).gone → events ≡ before ++ Flushed Errors ∷ [] → GoesOut o after text events
+  CutOff : CutsOff o text events → GoesOut o after text events
 
--- the text that tells the misuse
-pub record TellsMisuse {E : Type 0} (facts : E → OutputFacts) (contents : E → Option (List ℕ)) (old new : E) (misuse : Misuse) : Type 0 where
+-- the text that tells the misuse goes out
+pub record TellsMisuse {T P F K S L : Type 0} (o : Outside T P F K S L) (after : T) (misuse : Misuse) (events : List Event) : Type 0 where
   pub text : List ℕ
   pub is : IsToldSo misuse text
-  pub out : GoesOut facts contents old new text
+  pub out : GoesOut o after text events

@@ -1,14 +1,13 @@
 //! The commands: their names, and command lines as tasks. Each command has a file of its own in `commands/`.
 
-ghost use Rattle.std.specs.Prelude.{◌≡◌, ◌↔◌, IsTrue, map, true, false, IfOk, IfErr, IfSome, IfNone, OnErr, IsErrOf, option_map};
+ghost use Rattle.std.specs.Prelude.{◌≡◌, ◌↔◌, IsTrue, map, true, false, IfOk, IfErr, IfSome, IfNone, OnErr, IsErrOf};
 ghost use Rattle.clap.specs.Words.{HasKind, Text, app_of, is_simple_and_free, found_of, first_value, rule_of, with_rule};
 ghost use Rattle.command_line.specs.declared.words.usage.Misuse.{Misuse};
 ghost use Rattle.command_line.specs.Commands.AuditGames.{LacksFolders};
 ghost use Rattle.command_line.specs.Misuses.{AsksForHelp};
 ghost use Rattle.command_line.specs.Rules.{argument_value, rule_of_value, words_fault};
 ghost use Rattle.command_line.specs.Inside.Putting.{IsMisuseOf};
-ghost use Rattle.task_files.specs.Sources.{named_by};
-ghost use Rattle.command_line.specs.Tasks.{IsReadAs, IsTask, IsMisuse, TakesWords, IsHelpBy, IsVersion, NamesCommand, NamesNoCommand, app_for, key_in, named_in, tables_in, command_rules, command_word};
+ghost use Rattle.command_line.specs.Tasks.{IsReadAs, IsTask, IsMisuse, TakesWords, IsHelpBy, IsVersion, NamesCommand, NamesNoCommand, app_for, command_rules, command_word};
 
 mod audit;
 mod audit_games;
@@ -62,7 +61,6 @@ pub use serve::Serve;
 pub use show::Show;
 pub use status::ShowStatus;
 use std::alloc::{AllocError, Global};
-use task_files::InputPaths;
 pub use version::Version;
 
 /// The task of a command line.
@@ -541,86 +539,6 @@ fn task_of<'a>(name: Name, matches: &ArgMatches<'a>) -> Result<Task<'a>, ValueFa
             Ok(task) => Ok(Task::Serve(task)),
             Err(fault) => Err(fault),
         },
-    }
-}
-
-impl<'a> Task<'a> {
-    /// The places to read for the task.
-    pub fn places(&self) -> InputPaths<'a>
-        ensures { named_by result ≡ named_in self.now }
-    {
-        match self {
-            Task::Judge(task) => task.places(),
-            Task::Probe(task) => task.places(),
-            Task::Moves(task) => task.places(),
-            Task::List(task) => task.places(),
-            Task::Check(task) => task.places(),
-            Task::Show(task) => task.places(),
-            Task::Run(task) => task.places(),
-            Task::Listen(task) => task.places(),
-            Task::Probes(task) => task.places(),
-            Task::Game(task) => task.places(),
-            Task::Games(task) => task.places(),
-            Task::Pgn(task) => task.places(),
-            Task::Record(task) => task.places(),
-            Task::GameRecord(task) => task.places(),
-            Task::Audit(task) => task.places(),
-            Task::AuditGames(task) => task.places(),
-            Task::Version(task) => task.places(),
-            Task::Send(task) => task.places(),
-            Task::Enter(task) => task.places(),
-            Task::Host(task) => task.places(),
-            Task::Root(task) => task.places(),
-            Task::Follow(task) => task.places(),
-            Task::Status(task) => task.places(),
-            Task::Serve(task) => task.places(),
-        }
-    }
-}
-
-impl<'a> Task<'a> {
-    /// The folder of the tables of the task, if it has one.
-    pub fn tables(&self) -> Option<&'a str>
-        ensures { option_map (λ s. s.now) result ≡ tables_in self.now }
-    {
-        match self {
-            Task::Judge(task) => task.tables,
-            Task::Probe(task) => Some(task.tables),
-            Task::Probes(task) => Some(task.tables),
-            Task::Root(task) => Some(task.tables),
-            Task::Game(task) => task.tables,
-            Task::Games(task) => Some(task.tables),
-            Task::Pgn(task) => Some(task.tables),
-            Task::Follow(task) => task.tables,
-            Task::Run(task) => task.tables,
-            Task::Audit(task) => Some(task.tables),
-            Task::AuditGames(task) => Some(task.tables),
-            Task::List(task) => Some(task.folder),
-            Task::Check(task) => Some(task.folder),
-            Task::Listen(task) => Some(task.tables),
-            Task::Host(task) => Some(task.tables),
-            Task::Serve(task) => Some(task.tables),
-            Task::Enter(task) => Some(task.tables),
-            Task::Send(task) => match &task.game {
-                SentGame::Told(told) => Some(told.tables),
-                SentGame::InFile(_) => None,
-            },
-            _ => None,
-        }
-    }
-}
-
-impl<'a> Task<'a> {
-    /// The file of the keys by which the datagrams of the task are sealed, if they are.
-    pub fn key(&self) -> Option<&'a str>
-        ensures { option_map (λ s. s.now) result ≡ key_in self.now }
-    {
-        match self {
-            Task::Listen(task) => task.key,
-            Task::Send(task) => task.key,
-            Task::Host(task) => task.key,
-            _ => None,
-        }
     }
 }
 

@@ -6,7 +6,6 @@ pub mod GameLaws
 pub mod LineLaws
 pub mod StoreLaws
 pub mod StoredLaws
-pub mod ImportLaws
 pub mod TotalLaws
 pub mod MetricLaws
 pub mod FolderLaws

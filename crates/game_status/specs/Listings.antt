@@ -32,10 +32,6 @@ game_ending = codes ".game"
 abbrev pub kept_ending : List ℕ
 kept_ending = codes ".kept"
 
--- a folder lists the files of these stamps
-abbrev pub ListsStamps : DiskFacts → List ℕ → List ℕ → List (List ℕ) → Type 0
-ListsStamps disk folder ending stamps = (names : List (List ℕ)) × disk.lists folder names × AreStampsIn names ending stamps
-
 -- ---- folders
 
 -- a folder: its path, and the stamps of the records that it lists

@@ -10,8 +10,7 @@
 //! `objects`, `report`; `one_game`;
 //! `audit_lines`, `game_audit`.
 //! Where a host keeps the records of a folder in a store, `store_reading` reads them, also while the host writes, and `stored_disk` is
-//! the disk on which they stand as files: what tells of a folder's files then tells of them, with no change of its own. `importing`
-//! puts records that stand in files into the store of their folder (`import_records`).
+//! the disk on which they stand as files: what tells of a folder's files then tells of them, with no change of its own.
 //! `add_moves`, `add_refused_record` and `add_finding` are for lines of the crate above too. What works on bytes or values alone is also for
 //! `game_reports`, which reads the same over a system.
 //!
@@ -42,7 +41,6 @@ mod audit_lines;
 mod comparing;
 mod entry;
 mod game_audit;
-mod importing;
 mod listing;
 mod metrics;
 mod objects;
@@ -60,7 +58,6 @@ pub use audit_lines::{AuditLook, Unsound, add_finding, audit_told};
 pub use comparing::Compared;
 pub use entry::{Entry, EntryFault};
 pub use game_audit::{AuditTables, audit_of};
-pub use importing::{ImportFault, import_records};
 pub use listing::{Folder, Folders, add_stamps, rising, stamp_of};
 pub use metrics::metrics_text;
 pub use objects::{

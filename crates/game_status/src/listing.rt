@@ -7,7 +7,7 @@ ghost use Rattle.std.specs.Ordering.{nat_cmp};
 ghost use Rattle.hex.specs.Hex.{encode_lower};
 ghost use Rattle.system_io.specs.Disks.{AtFolder};
 ghost use Rattle.move_msg.specs.Stamps.{IsStamp};
-ghost use Rattle.game_status.specs.Listings.{AddsStamps, AreListed, CannotList, CannotListOther, ListsStamps, kept_ending, listing_of, stamp_file_name};
+ghost use Rattle.game_status.specs.Listings.{AddsStamps, AreListed, CannotList, CannotListOther, listing_of, stamp_file_name};
 ghost use Rattle.game_status.specs.Inside.Listing.{ListsFolder, ListsOther};
 
 use move_msg::Stamp;
@@ -82,26 +82,6 @@ pub fn rising(alloc: Global, stamps: &BTreeSet<Stamp>) -> Result<Vec<Stamp>, All
         all.push(*stamp)?;
     }
     Ok(all)
-}
-
-/// The stamps of the records that a folder lists.
-pub(crate) fn kept_stamps<D: Disk>(
-    alloc: Global,
-    disk: &D,
-    path: &str,
-) -> Result<BTreeSet<Stamp>, ReadFault>
-    ensures ok { IfOk result (λ stamps. ListsStamps (D.facts disk.now) path.now kept_ending stamps.keys) }
-    ensures cause { IsErrOf result ReadFault.Unreadable → (D.facts disk.now).fails (AtFolder path.now) }
-{
-    let names = match disk.names(alloc, path) {
-        Ok(names) => names,
-        Err(fault) => return Err(fault),
-    };
-    let mut kept = BTreeSet::new(alloc);
-    match add_stamps(&names, b".kept", &mut kept) {
-        Ok(()) => Ok(kept),
-        Err(_) => Err(ReadFault::OutOfMemory),
-    }
 }
 
 /// A folder of games as it was listed.

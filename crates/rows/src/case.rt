@@ -1,14 +1,10 @@
 //! A case: the input of the program, and what is wanted of it.
 
-use crate::memory_host::{MemoryHost, Stands};
-use crate::memory_store::StoreEnds;
 use crate::pieces::{Fault, add_piece, number_of};
 use crate::shelf::{Shelf, head_of, is_comment, parted};
-use crate::slow_input::SlowInput;
 use std::alloc::{AllocError, Global};
-use std::cell::Cell;
 use system_fakes::{MemoryInput, Outcome};
-use timeline_fakes::KeptStart;
+use timeline_fakes::{Binds, KeptStart};
 
 /// What is run.
 #[derive(Clone, Copy)]
@@ -23,6 +19,19 @@ pub(crate) enum Call<'t> {
     Lines,
     /// The call of a library that has this name.
     Library(&'t str),
+}
+
+/// What stands where a record is kept.
+#[derive(Clone, Copy)]
+enum Stands {
+    /// Nothing.
+    Nothing,
+    /// A file.
+    Bytes,
+    /// Something that can't be read.
+    Unreadable,
+    /// Nothing, in a folder that can't be synced.
+    Unsettled,
 }
 
 /// What is wanted.
@@ -43,8 +52,10 @@ pub(crate) struct Case<'t> {
     pub(crate) call: Call<'t>,
     pub(crate) words: Vec<&'t str>,
     pub(crate) wanted: Wanted,
-    /// How many of the writes are refused in turn, each in a run of its own.
+    /// How many of the writes and flushes are refused in turn, each in a run of its own.
     pub(crate) refused_writes: usize,
+    /// The number of a call that fails, of those that may.
+    pub(crate) fails_at: Option<usize>,
     /// Standard error can't be written.
     pub(crate) is_mute: bool,
     input: Vec<u8>,
@@ -56,8 +67,6 @@ pub(crate) struct Case<'t> {
     kept: Vec<u8>,
     /// What comes of the calls for a file in a folder that can't be synced: the first fails.
     unsettled: [Outcome; 1],
-    /// What the store of its host comes to.
-    store: StoreEnds,
 }
 
 /// Adds the words of a text. Those in double quotes, with the spaces in them, are one.
@@ -101,6 +110,7 @@ impl<'t> Case<'t> {
             words: Vec::new(alloc),
             wanted: Wanted::new(alloc),
             refused_writes: 0,
+            fails_at: None,
             is_mute: false,
             input: Vec::new(alloc),
             input_fails: true,
@@ -109,30 +119,24 @@ impl<'t> Case<'t> {
             stands: Stands::Unreadable,
             kept: Vec::new(alloc),
             unsettled: [Outcome::Before],
-            store: StoreEnds::Keeps,
         }
     }
 
     /// Its standard input.
-    pub(crate) fn input(&self) -> SlowInput<'_> {
-        SlowInput {
-            bytes: &self.input,
-            fails: self.input_fails,
-            is_taken: Cell::new(false),
-        }
-    }
-
-    /// Its standard input, for a command that is over a timeline.
-    pub(crate) fn memory_input(&self) -> MemoryInput<'_> {
+    pub(crate) fn input(&self) -> MemoryInput<'_> {
         MemoryInput {
             bytes: &self.input,
             fails: self.input_fails,
         }
     }
 
-    /// Whether a port can be bound, for a command that is over a timeline.
-    pub(crate) fn binds(&self) -> bool {
-        self.is_bound
+    /// Where a port can be bound.
+    pub(crate) fn binds(&self) -> Binds<'_> {
+        if self.is_bound {
+            Binds::At("b:1", "t:1")
+        } else {
+            Binds::Nowhere
+        }
     }
 
     /// The datagrams that wait at that port.
@@ -140,7 +144,7 @@ impl<'t> Case<'t> {
         &self.datagrams
     }
 
-    /// What stands where something is to be kept, for a command that is over a timeline.
+    /// What stands where something is to be kept.
     pub(crate) fn elsewhere(&self) -> KeptStart<'_> {
         KeptStart {
             bytes: match self.stands {
@@ -158,18 +162,6 @@ impl<'t> Case<'t> {
     /// The bytes of its standard input.
     pub(crate) fn input_bytes(&self) -> &[u8] {
         &self.input
-    }
-
-    /// Its host.
-    pub(crate) fn host(&self) -> MemoryHost<'_> {
-        MemoryHost {
-            is_bound: self.is_bound,
-            waiting: &self.datagrams,
-            stands: self.stands,
-            kept: &self.kept,
-            store: self.store,
-            notes: Cell::new(0),
-        }
     }
 
     /// Adds a piece of the input, or that it fails behind what it has.
@@ -217,17 +209,6 @@ impl<'t> Case<'t> {
         }
     }
 
-    /// Sets what the store of its host comes to.
-    fn set_store(&mut self, text: &str) -> Result<(), Fault> {
-        self.store = match text {
-            "unopened" => StoreEnds::Unopened,
-            "fails" => StoreEnds::Fails,
-            "refuses" => StoreEnds::Refuses,
-            _ => return Err(Fault::Line),
-        };
-        Ok(())
-    }
-
     /// Sets the status that is wanted.
     fn set_status(&mut self, text: &str) -> Result<(), Fault> {
         match text.parse::<u8>() {
@@ -252,8 +233,8 @@ impl<'t> Case<'t> {
             "status" => return self.set_status(text),
             "datagram" => return self.add_datagram(alloc, shelf, text),
             "kept" => return self.set_kept(alloc, shelf, text),
-            "store" => return self.set_store(text),
             "writes" => self.refused_writes = number_of(text)?,
+            "fails" => self.fails_at = Some(number_of(text)?),
             "notes" => self.wanted.notes = number_of(text)?,
             "task" => self.call = Call::Task(text),
             "call" => self.call = Call::Library(text),

@@ -3,23 +3,22 @@
 use crate::case::{Call, Case};
 use crate::closed::Closed;
 use crate::counting::Counting;
-use crate::memory_host::Unwritten;
-use crate::paper::Paper;
+use crate::memory_host::MemoryHost;
 use crate::report::{
     check_end, check_errors, check_notes, check_output, check_refused, check_text, note_call,
 };
 use crate::shelf::parted;
 use crate::system::tell_system;
-use adjudicate_core::{Others, run_program};
+use adjudicate_core::{Beside, run_program};
 use command_line::{Task, Usage, WordsFault, parse};
 use line_events::answer_lines;
 use row_calls::{Fault, Given, tell_call};
-use serve_commands::System;
 use std::alloc::{AllocError, Global};
+use std::cell::Cell;
+use std::net::{IpAddr, Ipv4Addr, SocketAddr};
 use system_fakes::MemoryDisk;
-use system_io::Input;
 use timeline::Stream;
-use timeline_fakes::{MemorySystem, MemoryTimeline, Recorded, Turns};
+use timeline_fakes::{Failing, MemorySystem, MemoryTimeline, Recorded, Turns};
 
 /// What came of a run.
 #[derive(Drop)]
@@ -30,15 +29,6 @@ struct Ending {
     notes: usize,
     output: Vec<u8>,
     errors: Vec<u8>,
-}
-
-/// Which writes of a run are refused.
-#[derive(Clone, Copy)]
-struct Refusals {
-    /// The number of a write of the output, the first being 0.
-    output: Option<usize>,
-    /// The number of one of standard error.
-    errors: Option<usize>,
 }
 
 /// The words that the program is called with, its own name first.
@@ -59,15 +49,20 @@ fn called_by(alloc: Global, words: &[&str]) -> Result<Vec<String>, WordsFault> {
     }
 }
 
-/// The outside of the commands that are over a timeline.
+/// The own address of a port.
+fn own_address() -> SocketAddr {
+    SocketAddr::new(IpAddr::V4(Ipv4Addr::new(127, 0, 0, 1)), 7701)
+}
+
+/// All that is outside.
 fn outside<'a>(case: &'a Case<'_>, disk: &MemoryDisk<'a>) -> MemorySystem<'a> {
     MemorySystem {
         disk: *disk,
-        input: case.memory_input(),
+        input: case.input(),
         kept: &[],
         elsewhere: case.elsewhere(),
         binds: case.binds(),
-        own: None,
+        own: Some(own_address()),
         turns: Turns::Waiting(case.datagrams()),
     }
 }
@@ -92,38 +87,35 @@ impl Ending {
     }
 }
 
-/// How the program ends.
+/// How the program ends where these calls fail.
 fn ended_over<'a>(
     alloc: Global,
     case: &'a Case<'a>,
     disk: &'a MemoryDisk<'a>,
-    refusals: Refusals,
+    failing: Failing,
 ) -> Result<Ending, AllocError> {
-    let host = case.host();
-    let mut others = Others {
-        system: System {
-            disk,
-            input: &case.input(),
-            host: &host,
-            pages: &Closed::new(),
-        },
-        history: Unwritten {},
-        out: Paper::new(alloc, refusals.output),
-        errors: Paper::new(alloc, refusals.errors),
+    let host = MemoryHost {
+        notes: Cell::new(0),
     };
-    let mut timeline = MemoryTimeline::new(alloc, refusals.output);
+    let mut beside = Beside {
+        disk,
+        host: &host,
+        pages: &Closed::new(),
+        out: Vec::new(alloc),
+    };
+    let mut timeline = MemoryTimeline::failing(alloc, failing);
     let status = run_program(
         alloc,
         &called_by(alloc, &case.words),
         &outside(case, disk),
         &mut timeline,
-        &mut others,
+        &mut beside,
     );
     let mut ending = Ending {
         status,
         notes: host.notes.get(),
-        output: others.out.into_bytes(),
-        errors: others.errors.into_bytes(),
+        output: beside.out,
+        errors: Vec::new(alloc),
     };
     ending.add(&timeline)?;
     Ok(ending)
@@ -134,9 +126,9 @@ fn counted_over(
     alloc: Global,
     case: &Case<'_>,
     disk: &MemoryDisk<'_>,
-    refusals: Refusals,
+    failing: Failing,
 ) -> Result<Ending, AllocError> {
-    let mut timeline = MemoryTimeline::new(alloc, refusals.output);
+    let mut timeline = MemoryTimeline::failing(alloc, failing);
     let progress = !case.words.is_empty();
     let system = outside(case, disk);
     let answered = answer_lines(alloc, &mut Counting, &system, &mut timeline, progress);
@@ -159,11 +151,11 @@ fn ended(
     alloc: Global,
     case: &Case<'_>,
     disk: &MemoryDisk<'_>,
-    refusals: Refusals,
+    failing: Failing,
 ) -> Result<Ending, AllocError> {
     match case.call {
-        Call::Lines => counted_over(alloc, case, disk, refusals),
-        _ => ended_over(alloc, case, disk, refusals),
+        Call::Lines => counted_over(alloc, case, disk, failing),
+        _ => ended_over(alloc, case, disk, failing),
     }
 }
 
@@ -227,6 +219,15 @@ fn check_system(rt: &HostRuntime, report: &mut String, case: &Case<'_>) -> Resul
     check_output(rt.alloc(), report, &case.wanted, told.as_bytes())
 }
 
+/// Which calls fail in a case.
+fn failing_in(case: &Case<'_>) -> Failing {
+    match case.fails_at {
+        Some(number) => Failing::Call(number),
+        None if case.is_mute => Failing::Errors,
+        None => Failing::Nothing,
+    }
+}
+
 /// Looks at what comes of a run.
 fn check_run(
     alloc: Global,
@@ -234,11 +235,7 @@ fn check_run(
     case: &Case<'_>,
     disk: &MemoryDisk<'_>,
 ) -> Result<(), AllocError> {
-    let refusals = Refusals {
-        output: None,
-        errors: if case.is_mute { Some(0) } else { None },
-    };
-    let got = ended(alloc, case, disk, refusals)?;
+    let got = ended(alloc, case, disk, failing_in(case))?;
     check_end(report, case.wanted.status, got.status)?;
     check_notes(report, case.wanted.notes, got.notes)?;
     check_output(alloc, report, &case.wanted, &got.output)?;
@@ -256,11 +253,7 @@ fn check_write(
     disk: &MemoryDisk<'_>,
     number: usize,
 ) -> Result<(), AllocError> {
-    let refusals = Refusals {
-        output: Some(number),
-        errors: None,
-    };
-    let got = ended(alloc, case, disk, refusals)?;
+    let got = ended(alloc, case, disk, Failing::Write(number))?;
     check_refused(report, number, got.status, got.notes)
 }
 

@@ -29,6 +29,17 @@ use system_io::{
 };
 use timeline::{Stream, System};
 
+/// Where a port can be bound.
+#[derive(Clone, Copy)]
+pub enum Binds<'a> {
+    /// Nowhere.
+    Nowhere,
+    /// At any address, to send to any others.
+    Anywhere,
+    /// At the first of these addresses, to send to the second.
+    At(&'a str, &'a str),
+}
+
 /// Folders and files, an input, what stands where something is to be kept, the own address of a port and what comes of its calls.
 #[derive(Clone, Copy)]
 pub struct MemorySystem<'a> {
@@ -40,8 +51,8 @@ pub struct MemorySystem<'a> {
     pub kept: &'a [AtPath<'a, KeptStart<'a>>],
     /// What stands at any other path.
     pub elsewhere: KeptStart<'a>,
-    /// Whether a port can be bound.
-    pub binds: bool,
+    /// Where a port can be bound.
+    pub binds: Binds<'a>,
     /// The own address of a port.
     pub own: Option<SocketAddr>,
     /// What comes of its calls that receive, in order.
@@ -236,6 +247,25 @@ fn put_batch(
     }
 }
 
+/// Whether this is the only one of some addresses.
+fn is_only(addresses: &[&str], address: &str) -> bool {
+    match addresses {
+        [only] => *only == address,
+        _ => false,
+    }
+}
+
+impl<'a> Binds<'a> {
+    /// Whether a port can be bound at an address, to send to these.
+    fn allows(&self, address: &str, to: &[&str]) -> bool {
+        match self {
+            Binds::Nowhere => false,
+            Binds::Anywhere => true,
+            Binds::At(only, other) => address == *only && is_only(to, other),
+        }
+    }
+}
+
 impl<'a> MemorySystem<'a> {
     /// Binds a port.
     fn bind_at(
@@ -249,7 +279,7 @@ impl<'a> MemorySystem<'a> {
         ensures bound { IfOk result (λ port. (port_state port).address ≡ address.now) }
         ensures each { IfOk result (λ port. AreNamed (port_state port).own (map (λ s. s.now) to.now) (port_state port).to) }
     {
-        if timeline.is_failing() || !self.binds {
+        if timeline.is_failing() || !self.binds.allows(address, to) {
             return Err(BindFault::Unbound);
         }
         match MemoryPort::new(alloc, address, self.own, to, self.turns) {
@@ -404,7 +434,7 @@ impl<'a> System for MemorySystem<'a> {
         bytes: &[u8],
     ) -> Result<(), WriteFault> {
         timeline.set_outlet(to, Outlet::Waits);
-        if timeline.is_failing() {
+        if timeline.is_refusing(to) {
             let made = wrote(timeline.alloc(), to, &bytes[..bytes.len() / 2]);
             timeline.keep(made);
             timeline.keep(Ok(Recorded::Refused { to }));
@@ -416,7 +446,7 @@ impl<'a> System for MemorySystem<'a> {
     }
 
     fn flush(&self, timeline: &mut MemoryTimeline, to: Stream) -> Result<(), WriteFault> {
-        if timeline.is_failing() {
+        if timeline.is_refusing(to) {
             timeline.set_outlet(to, Outlet::Stuck);
             timeline.keep(Ok(Recorded::Refused { to }));
             return Err(WriteFault::Io);

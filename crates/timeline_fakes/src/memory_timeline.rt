@@ -20,8 +20,20 @@ pub enum Outlet {
     Stuck,
 }
 
-/// All that happened at a system in memory, in order, and how far its output and its errors have gone out. The call with one number, of
-/// those that may fail, fails.
+/// Which calls fail, of those that may.
+#[derive(Clone, Copy, PartialEq, Eq)]
+pub enum Failing {
+    /// None.
+    Nothing,
+    /// The one with this number, counted from 0.
+    Call(usize),
+    /// The write or flush with this number, counted from 0.
+    Write(usize),
+    /// Each write and flush of standard error.
+    Errors,
+}
+
+/// All that happened at a system in memory, in order, and how far its output and its errors have gone out.
 #[derive(Drop)]
 pub struct MemoryTimeline {
     alloc: Global,
@@ -30,12 +42,23 @@ pub struct MemoryTimeline {
     output: Outlet,
     errors: Outlet,
     calls: usize,
-    fails_at: Option<usize>,
+    writes: usize,
+    failing: Failing,
 }
 
 impl MemoryTimeline {
     /// A timeline in which nothing has happened. The call with this number, counted from 0, fails.
     pub fn new(alloc: Global, fails_at: Option<usize>) -> MemoryTimeline
+        ensures { events_in result ≡ Some [] }
+    {
+        match fails_at {
+            Some(number) => MemoryTimeline::failing(alloc, Failing::Call(number)),
+            None => MemoryTimeline::failing(alloc, Failing::Nothing),
+        }
+    }
+
+    /// A timeline in which nothing has happened. These calls fail.
+    pub fn failing(alloc: Global, failing: Failing) -> MemoryTimeline
         ensures { events_in result ≡ Some [] }
     {
         MemoryTimeline {
@@ -45,7 +68,8 @@ impl MemoryTimeline {
             output: Outlet::Waits,
             errors: Outlet::Waits,
             calls: 0,
-            fails_at,
+            writes: 0,
+            failing,
         }
     }
 
@@ -67,9 +91,20 @@ impl MemoryTimeline {
     pub(crate) fn is_failing(&mut self) -> bool
         ensures events { events_in self.new ≡ events_in self.old }
     {
-        let fails = self.fails_at == Some(self.calls);
+        let fails = self.failing == Failing::Call(self.calls);
         self.calls = self.calls.saturating_add(1);
         fails
+    }
+
+    /// Counts a write or a flush, and returns whether it fails.
+    pub(crate) fn is_refusing(&mut self, to: Stream) -> bool
+        ensures events { events_in self.new ≡ events_in self.old }
+    {
+        let is_next = self.failing == Failing::Write(self.writes);
+        self.writes = self.writes.saturating_add(1);
+        let is_mute = matches!(to, Stream::Errors) && self.failing == Failing::Errors;
+        let fails = self.is_failing();
+        is_next || is_mute || fails
     }
 
     /// Records what happened.

@@ -10,7 +10,7 @@ use system_fakes::{MemoryDisk, MemoryInput, MemoryPort, Passage, Turn};
 use system_io::{NO_TAG, Port};
 use timeline::System;
 use timeline_fakes::{
-    KeptStart, MemorySystem, MemoryTimeline, Recorded, Turn as SystemTurn, Turns,
+    Binds, KeptStart, MemorySystem, MemoryTimeline, Recorded, Turn as SystemTurn, Turns,
 };
 
 /// A row of RFC 4231: a key in hexadecimal digits, a text, and its HMAC.
@@ -222,7 +222,7 @@ fn memory<'a>(turns: &'a [SystemTurn<'a>]) -> MemorySystem<'a> {
             outcomes: &[],
             reads_fail: false,
         },
-        binds: true,
+        binds: Binds::Anywhere,
         own: None,
         turns: Turns::Each(turns),
     }

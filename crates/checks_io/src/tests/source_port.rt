@@ -6,7 +6,7 @@ use std::alloc::Global;
 use std::net::SocketAddr;
 use std::process::Abort;
 use system_fakes::{MemoryDisk, MemoryInput};
-use timeline_fakes::{KeptStart, MemorySystem, Turn, Turns};
+use timeline_fakes::{Binds, KeptStart, MemorySystem, Turn, Turns};
 
 /// Where the first arbiter listens, and the second.
 pub(crate) const FIRST: &str = "127.0.0.1:7331";
@@ -146,7 +146,7 @@ pub(crate) fn system_of<'a>(
             outcomes: &[],
             reads_fail: false,
         },
-        binds: true,
+        binds: Binds::Anywhere,
         own: None,
         turns: Turns::Each(turns),
     }

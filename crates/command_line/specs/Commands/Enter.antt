@@ -8,7 +8,6 @@ use Rattle.command_line.specs.declared.commands.Form.TheVariants as form
 use Rattle.command_line.specs.Misuses.{AreGameWords, Fault, NoOption, NotWith, Unfit, game_faults}
 use Rattle.command_line.specs.declared.words.usage.Instead.TheVariants as instead
 use Rattle.command_line.specs.declared.words.usage.Wanted.TheVariants as wanted
-use Rattle.task_files.specs.Sources.{Named, nothing}
 use Rattle.command_line.specs.Numbers.{IsDelay, is_set}
 use Rattle.command_line.specs.declared.commands.enter.Enter.{Enter}
 use Rattle.command_line.specs.declared.commands.enter.Entries.{Entries}
@@ -57,7 +56,3 @@ faults_by (Some from) = list_faults
 
 abbrev pub faults : (Text → Option Text) → List Fault
 faults value = faults_by (value (codes "from"))
-
--- what is read for it before it answers: nothing
-abbrev pub named : Named
-named = nothing

@@ -1,7 +1,6 @@
 -- The words of `record --games DIR STAMP` (this project's own).
-use Rattle.std.specs.Prelude.{◌≡◌, false, List, [], ◌∷◌, Option, Some, None, codes}
+use Rattle.std.specs.Prelude.{◌≡◌, List, [], ◌∷◌, Option, Some, None, codes}
 use Rattle.clap.specs.Words.{Text}
-use Rattle.task_files.specs.Sources.{Named}
 use Rattle.command_line.specs.Commands.Record as one_file
 use Rattle.command_line.specs.GamePaths.{SpellsStamp}
 use Rattle.command_line.specs.Misuses.{Fault, NoWord, Unfit}
@@ -23,7 +22,3 @@ faults = NoWord (codes "FILE") ∷ Unfit wanted.Stamp ∷ []
 abbrev pub faults_by : Option Text → List Fault
 faults_by None = one_file.faults
 faults_by (Some games) = faults
-
--- what is read for it before it answers: its folder is not
-abbrev pub named : Named
-named = record { folder = None; manifest = None; input = false; kept = None; other_kept = None }

@@ -4,7 +4,6 @@ use Rattle.clap.specs.Words.{Rule, Text}
 use Rattle.command_line.specs.Rules.{rule_of_form}
 use Rattle.command_line.specs.declared.commands.Form.TheVariants as form
 use Rattle.command_line.specs.Misuses.{Fault, NoWord}
-use Rattle.task_files.specs.Sources.{Named, nothing}
 use Rattle.command_line.specs.Numbers.{is_set}
 use Rattle.command_line.specs.declared.commands.list.List.{List as ListTask}
 
@@ -20,7 +19,3 @@ HasValues value t = (t.progress ≡ is_set (value (codes "progress"))) × (Some 
 -- what may be wrong with its values, in the order in which it is told
 abbrev pub faults : List Fault
 faults = NoWord (codes "DIR") ∷ []
-
--- nothing is read for it before it answers: it reads its folder itself
-abbrev pub named : Named
-named = nothing

@@ -4,7 +4,6 @@ use Rattle.clap.specs.Words.{Rule, Text}
 use Rattle.command_line.specs.Rules.{rule_of_form}
 use Rattle.command_line.specs.declared.commands.Form.TheVariants as form
 use Rattle.command_line.specs.Misuses.{Fault, NoWord}
-use Rattle.task_files.specs.Sources.{Named, nothing}
 use Rattle.command_line.specs.Numbers.{is_set}
 use Rattle.command_line.specs.declared.commands.moves.Moves.{Moves}
 
@@ -20,7 +19,3 @@ HasValues value t = (t.san ≡ is_set (value (codes "san"))) × (Some t.fen.now 
 -- what may be wrong with its values, in the order in which it is told
 abbrev pub faults : List Fault
 faults = NoWord (codes "FEN") ∷ []
-
--- what is read for it
-abbrev pub named : Moves → Named
-named t = nothing

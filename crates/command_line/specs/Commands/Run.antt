@@ -1,11 +1,10 @@
 -- The words of `run [--tables DIR] [--cache N] [--delay N]` (this project's own).
-use Rattle.std.specs.Prelude.{◌≡◌, true, List, [], ◌∷◌, Option, None, codes, option_map}
+use Rattle.std.specs.Prelude.{◌≡◌, List, [], ◌∷◌, Option, codes, option_map}
 use Rattle.clap.specs.Words.{Rule, Text}
 use Rattle.command_line.specs.Rules.{rule_of_form}
 use Rattle.command_line.specs.declared.commands.Form.TheVariants as form
 use Rattle.command_line.specs.Misuses.{Fault, Unfit}
 use Rattle.command_line.specs.declared.words.usage.Wanted.TheVariants as wanted
-use Rattle.task_files.specs.Sources.{Named}
 use Rattle.command_line.specs.Numbers.{IsCache, IsDelay}
 use Rattle.command_line.specs.declared.commands.run.RunSchedule.{RunSchedule}
 
@@ -22,7 +21,3 @@ HasValues value t = (option_map (λ s. s.now) t.tables ≡ value (codes "tables"
 -- what may be wrong with its values, in the order in which it is told
 abbrev pub faults : List Fault
 faults = Unfit wanted.Cache ∷ Unfit wanted.Delay ∷ []
-
--- what is read for it
-abbrev pub named : RunSchedule → Named
-named t = record { folder = option_map (λ s. s.now) t.tables; manifest = None; input = true; kept = None; other_kept = None }

@@ -9,7 +9,6 @@ use Rattle.command_line.specs.declared.commands.Form.TheVariants as form
 use Rattle.command_line.specs.GamePaths.{NamesGame}
 use Rattle.command_line.specs.Misuses.{AreGameWords, Beside, Fault, Unfit, Untold, game_faults, to_faults}
 use Rattle.command_line.specs.declared.words.usage.Wanted.TheVariants as wanted
-use Rattle.task_files.specs.Sources.{Named, nothing}
 use Rattle.command_line.specs.Numbers.{IsDelay, IsHundredOr, is_set}
 use Rattle.command_line.specs.declared.commands.send.Send.{Send}
 use Rattle.command_line.specs.declared.commands.send.ToldGame.{ToldGame}
@@ -44,11 +43,6 @@ IsGameInFile value f = (Some f.path.now ≡ value (codes "game")) × NamesGame f
 abbrev pub HasSentGame : (Text → Option Text) → SentGame → Type 0
 HasSentGame value (sent.Told g) = IsToldGame value g
 HasSentGame value (sent.InFile f) = IsGameInFile value f
-
--- the folder of the tables that words tell; a file tells none
-abbrev pub tables_of : SentGame → Option Text
-tables_of (sent.Told g) = Some g.tables.now
-tables_of (sent.InFile f) = None
 
 -- any port of any address, unless one is named
 abbrev pub bind_or_any : Option Text → List ℕ
@@ -86,7 +80,3 @@ term_faults = Unfit wanted.Delay ∷ Unfit wanted.Wait ∷ Unfit wanted.Tries �
 
 abbrev pub faults : List Fault
 faults = sent_faults ++ to_faults ++ term_faults
-
--- nothing is read for it before it answers: it reads its tables or its manifest itself
-abbrev pub named : Named
-named = nothing

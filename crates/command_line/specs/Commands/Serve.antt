@@ -1,7 +1,6 @@
 -- The words of `serve --tables DIR [--manifest FILE] --bind ADDR [--memory MB] [--requests N] [--games DIR [--other DIR]] [--log]` (this project's own).
 use Rattle.std.specs.Prelude.{◌≡◌, List, [], ◌∷◌, Option, Some, codes, option_map}
 use Rattle.clap.specs.Words.{Rule, Text}
-use Rattle.task_files.specs.Sources.{Named, nothing}
 use Rattle.command_line.specs.Addresses.{IsAddressIfAny}
 use Rattle.command_line.specs.Rules.{rule_of_form}
 use Rattle.command_line.specs.declared.commands.Form.TheVariants as form
@@ -36,7 +35,3 @@ pub record HasValues (value : Text → Option Text) (t : Serve) : Type 0 where
 -- what may be wrong with its values, in the order in which it is told
 abbrev pub faults : List Fault
 faults = NoOption (codes "tables") ∷ NoOption (codes "bind") ∷ Unfit wanted.Address ∷ Unfit wanted.Memory ∷ Unfit wanted.Requests ∷ WithoutGames (codes "other") ∷ []
-
--- nothing is read for it before it answers
-abbrev pub named : Named
-named = nothing

@@ -1,7 +1,6 @@
 -- The words of `status --games DIR [--other DIR] [--prometheus|--json]` (this project's own).
 use Rattle.std.specs.Prelude.{◌≡◌, Bool, true, false, List, [], ◌∷◌, Option, Some, None, codes, option_map}
 use Rattle.clap.specs.Words.{Rule, Text}
-use Rattle.task_files.specs.Sources.{Named, nothing}
 use Rattle.game_status.specs.declared.report.ReportForm.{ReportForm}
 use Rattle.game_status.specs.declared.report.ReportForm.TheVariants.{Metrics, Json}
 use Rattle.command_line.specs.Rules.{rule_of_form}
@@ -33,7 +32,3 @@ HasValues value t =
 -- what may be wrong with its values, in the order in which it is told
 abbrev pub faults : List Fault
 faults = NoOption (codes "games") ∷ FlagNotWith instead.Prometheus (codes "json") ∷ []
-
--- nothing is read for it before it answers: it reads its folders itself
-abbrev pub named : Named
-named = nothing

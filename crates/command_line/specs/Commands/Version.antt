@@ -2,7 +2,6 @@
 use Rattle.std.specs.Prelude.{List, []}
 use Rattle.clap.specs.Words.{Rule}
 use Rattle.command_line.specs.Misuses.{Fault}
-use Rattle.task_files.specs.Sources.{Named, nothing}
 
 abbrev pub rules : List Rule
 rules = []
@@ -10,7 +9,3 @@ rules = []
 -- nothing can be wrong with its values
 abbrev pub faults : List Fault
 faults = []
-
--- nothing is read for it
-abbrev pub named : Named
-named = nothing

@@ -1,10 +1,9 @@
 //! The words of `check`: whether the tables in a folder are those of a manifest.
 
-ghost use Rattle.std.specs.Prelude.{◌≡◌, IfErr, IfOk};
+ghost use Rattle.std.specs.Prelude.{IfErr, IfOk};
 ghost use Rattle.clap.specs.Words.{first_value, found_of};
-ghost use Rattle.command_line.specs.Commands.Check.{HasValues, faults, named};
+ghost use Rattle.command_line.specs.Commands.Check.{HasValues, faults};
 ghost use Rattle.command_line.specs.Misuses.{IsFirstMisuse, fault_words};
-ghost use Rattle.task_files.specs.Sources.{named_by};
 
 use crate::commands::options::{FOLDER, MANIFEST, PROGRESS};
 use crate::commands::{Group, Stands, Summary, Value};
@@ -12,7 +11,6 @@ use crate::words::numbers::is_set;
 use crate::words::usage::ValueFault;
 use crate::words::values::{option_in, word_in};
 use clap::ArgMatches;
-use task_files::InputPaths;
 
 /// Whether the tables in a folder are those of a manifest.
 #[derive(Clone, Copy)]
@@ -55,12 +53,5 @@ impl<'a> Check<'a> {
             progress: is_set(matches.get_str("progress")),
             folder: word_in(matches, "DIR")?,
         })
-    }
-
-    /// What is read for it before it answers: nothing, since it reads its folder itself.
-    pub(crate) fn places(&self) -> InputPaths<'a>
-        ensures { named_by result ≡ named }
-    {
-        InputPaths::none()
     }
 }

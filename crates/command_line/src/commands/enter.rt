@@ -13,7 +13,6 @@ use crate::words::values::{delay_in, game_words_in, option_in, without};
 use board_core::Delay;
 use clap::ArgMatches;
 use move_msg::GameName;
-use task_files::InputPaths;
 
 /// Games that are entered in a folder.
 #[derive(Drop)]
@@ -141,9 +140,8 @@ fn list_in<'a>(matches: &ArgMatches<'a>, path: &'a str) -> Result<Enter<'a>, Val
 impl<'a> Enter<'a> {
     ghost use Rattle.std.specs.Prelude.{◌≡◌, IfOk, IfErr};
     ghost use Rattle.clap.specs.Words.{found_of, first_value};
-    ghost use Rattle.task_files.specs.Sources.{named_by};
     ghost use Rattle.command_line.specs.Misuses.{IsFirstMisuse, fault_words};
-    ghost use Rattle.command_line.specs.Commands.Enter.{HasValues, faults, named};
+    ghost use Rattle.command_line.specs.Commands.Enter.{HasValues, faults};
 
     /// The task with these values, or the first thing that is wrong with them.
     pub(crate) fn of(matches: &ArgMatches<'a>) -> Result<Enter<'a>, ValueFault<'a>>
@@ -154,12 +152,5 @@ impl<'a> Enter<'a> {
             None => one_in(matches),
             Some(path) => list_in(matches, path),
         }
-    }
-
-    /// What is read for it before it answers: nothing, since it reads its list and its tables or its manifest itself.
-    pub(crate) fn places(&self) -> InputPaths<'a>
-        ensures { named_by result ≡ named }
-    {
-        InputPaths::none()
     }
 }

@@ -2,16 +2,14 @@
 
 ghost use Rattle.std.specs.Prelude.{◌≡◌, IfErr, IfOk, Some, codes};
 ghost use Rattle.clap.specs.Words.{Text, first_value, found_of};
-ghost use Rattle.command_line.specs.Commands.GameRecord.{faults, named};
+ghost use Rattle.command_line.specs.Commands.GameRecord.{faults};
 ghost use Rattle.command_line.specs.GamePaths.{SpellsStamp};
 ghost use Rattle.command_line.specs.Misuses.{IsFirstMisuse, fault_words};
-ghost use Rattle.task_files.specs.Sources.{named_by};
 
 use crate::words::usage::ValueFault;
 use crate::words::values::stamp_word;
 use clap::ArgMatches;
 use move_msg::Stamp;
-use task_files::InputPaths;
 
 /// The record of a game in a folder.
 #[derive(Clone, Copy)]
@@ -36,18 +34,5 @@ impl<'a> GameRecord<'a> {
             games,
             stamp: stamp_word(matches)?,
         })
-    }
-
-    /// What is read for it before it answers: not its folder, which it reads itself.
-    pub(crate) fn places(&self) -> InputPaths<'a>
-        ensures { named_by result ≡ named }
-    {
-        InputPaths {
-            folder: None,
-            manifest: None,
-            reads_input: false,
-            kept: None,
-            other_kept: None,
-        }
     }
 }

@@ -185,7 +185,7 @@ impl<'a> HostGames<'a> {
     }
 
     /// What is read for it.
-    pub(crate) fn places(&self) -> InputPaths<'a>
+    pub fn places(&self) -> InputPaths<'a>
         ensures { named_by result ≡ named self.now }
     {
         InputPaths {

@@ -1,10 +1,9 @@
 //! The words of `list`: the manifest of the tables in a folder.
 
-ghost use Rattle.std.specs.Prelude.{◌≡◌, IfErr, IfOk};
+ghost use Rattle.std.specs.Prelude.{IfErr, IfOk};
 ghost use Rattle.clap.specs.Words.{first_value, found_of};
-ghost use Rattle.command_line.specs.Commands.List.{HasValues, faults, named};
+ghost use Rattle.command_line.specs.Commands.List.{HasValues, faults};
 ghost use Rattle.command_line.specs.Misuses.{IsFirstMisuse, fault_words};
-ghost use Rattle.task_files.specs.Sources.{named_by};
 
 use crate::commands::options::{FOLDER, PROGRESS};
 use crate::commands::{Group, Summary, Value};
@@ -12,7 +11,6 @@ use crate::words::numbers::is_set;
 use crate::words::usage::ValueFault;
 use crate::words::values::word_in;
 use clap::ArgMatches;
-use task_files::InputPaths;
 
 /// The manifest of the tables in a folder.
 #[derive(Clone, Copy)]
@@ -44,12 +42,5 @@ impl<'a> List<'a> {
             progress: is_set(matches.get_str("progress")),
             folder: word_in(matches, "DIR")?,
         })
-    }
-
-    /// What is read for it before it answers: nothing, since it reads its folder itself.
-    pub(crate) fn places(&self) -> InputPaths<'a>
-        ensures { named_by result ≡ named }
-    {
-        InputPaths::none()
     }
 }

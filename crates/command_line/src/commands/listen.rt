@@ -178,7 +178,7 @@ impl<'a> Listen<'a> {
     }
 
     /// What is read for it.
-    pub(crate) fn places(&self) -> InputPaths<'a>
+    pub fn places(&self) -> InputPaths<'a>
         ensures { named_by result ≡ named self.now }
     {
         InputPaths {

@@ -1,10 +1,9 @@
 //! The words of `moves`: the legal moves of a position.
 
-ghost use Rattle.std.specs.Prelude.{◌≡◌, IfOk, IfErr};
+ghost use Rattle.std.specs.Prelude.{IfOk, IfErr};
 ghost use Rattle.clap.specs.Words.{first_value, found_of};
-ghost use Rattle.command_line.specs.Commands.Moves.{HasValues, faults, named};
+ghost use Rattle.command_line.specs.Commands.Moves.{HasValues, faults};
 ghost use Rattle.command_line.specs.Misuses.{IsFirstMisuse, fault_words};
-ghost use Rattle.task_files.specs.Sources.{named_by};
 
 use crate::commands::options::{FEN, SAN};
 use crate::commands::{Group, Summary, Value};
@@ -12,7 +11,6 @@ use crate::words::numbers::is_set;
 use crate::words::usage::ValueFault;
 use crate::words::values::word_in;
 use clap::ArgMatches;
-use task_files::InputPaths;
 
 /// The legal moves of a position.
 #[derive(Clone, Copy)]
@@ -50,12 +48,5 @@ impl<'a> Moves<'a> {
             san: is_set(matches.get_str("san")),
             fen: word_in(matches, "FEN")?,
         })
-    }
-
-    /// What is read for it.
-    pub(crate) fn places(&self) -> InputPaths<'a>
-        ensures { named_by result ≡ named self.now }
-    {
-        InputPaths::none()
     }
 }

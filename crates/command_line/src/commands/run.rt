@@ -1,10 +1,9 @@
 //! The words of `run`: two arbiters under the schedule of the input.
 
-ghost use Rattle.std.specs.Prelude.{◌≡◌, IfOk, IfErr};
+ghost use Rattle.std.specs.Prelude.{IfOk, IfErr};
 ghost use Rattle.clap.specs.Words.{first_value, found_of};
-ghost use Rattle.command_line.specs.Commands.Run.{HasValues, faults, named};
+ghost use Rattle.command_line.specs.Commands.Run.{HasValues, faults};
 ghost use Rattle.command_line.specs.Misuses.{IsFirstMisuse, fault_words};
-ghost use Rattle.task_files.specs.Sources.{named_by};
 
 use crate::commands::options::{CACHE, DELAY, TABLES_IF_ANY};
 use crate::commands::{Group, Summary, Value};
@@ -13,7 +12,6 @@ use crate::words::usage::ValueFault;
 use crate::words::values::{cache_in, delay_in};
 use board_core::Delay;
 use clap::ArgMatches;
-use task_files::InputPaths;
 
 /// Two arbiters under the schedule of the input.
 #[derive(Clone, Copy)]
@@ -48,18 +46,5 @@ impl<'a> RunSchedule<'a> {
             cache: cache_in(matches)?,
             delay: delay_in(matches)?,
         })
-    }
-
-    /// What is read for it.
-    pub(crate) fn places(&self) -> InputPaths<'a>
-        ensures { named_by result ≡ named self.now }
-    {
-        InputPaths {
-            folder: self.tables,
-            manifest: None,
-            reads_input: true,
-            kept: None,
-            other_kept: None,
-        }
     }
 }

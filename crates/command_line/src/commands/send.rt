@@ -17,7 +17,6 @@ use crate::words::values::{check_bind, delay_in, game_words_in, to_in, tries_in,
 use board_core::Delay;
 use clap::ArgMatches;
 use move_msg::{GameName, Stamp};
-use task_files::InputPaths;
 
 /// A game as words tell it.
 #[derive(Drop)]
@@ -248,9 +247,8 @@ fn terms_in<'a>(matches: &ArgMatches<'a>) -> Result<Limits, ValueFault<'a>>
 impl<'a> Send<'a> {
     ghost use Rattle.std.specs.Prelude.{◌≡◌, IfOk, IfErr};
     ghost use Rattle.clap.specs.Words.{found_of, first_value};
-    ghost use Rattle.task_files.specs.Sources.{named_by};
     ghost use Rattle.command_line.specs.Misuses.{IsFirstMisuse, fault_words};
-    ghost use Rattle.command_line.specs.Commands.Send.{HasValues, faults, named};
+    ghost use Rattle.command_line.specs.Commands.Send.{HasValues, faults};
 
     /// The task with these values, or the first thing that is wrong with them.
     pub(crate) fn of(matches: &ArgMatches<'a>) -> Result<Send<'a>, ValueFault<'a>>
@@ -272,12 +270,5 @@ impl<'a> Send<'a> {
             san: is_set(matches.get_str("san")),
             is_new: is_set(matches.get_str("new")),
         })
-    }
-
-    /// What is read for it before it answers: nothing, since it reads its tables or its manifest itself.
-    pub(crate) fn places(&self) -> InputPaths<'a>
-        ensures { named_by result ≡ named }
-    {
-        InputPaths::none()
     }
 }

@@ -2,9 +2,8 @@
 
 ghost use Rattle.std.specs.Prelude.{◌≡◌, IfErr, IfOk, OnOk, codes, option_map};
 ghost use Rattle.clap.specs.Words.{first_value, found_of};
-ghost use Rattle.command_line.specs.Commands.Serve.{HasValues, faults, named};
+ghost use Rattle.command_line.specs.Commands.Serve.{HasValues, faults};
 ghost use Rattle.command_line.specs.Misuses.{Holds, IsFirstMisuse, IsToldMisuse, WithoutGames, fault_words};
-ghost use Rattle.task_files.specs.Sources.{named_by};
 
 use crate::commands::options::{BIND, GAMES_SHOWN, MANIFEST, MEMORY, OTHER_GAMES, TABLES};
 use crate::commands::{Form, Group, Stands, Summary, Value};
@@ -12,7 +11,6 @@ use crate::words::numbers::{Megabytes, is_set};
 use crate::words::usage::ValueFault;
 use crate::words::values::{check_bind, memory_in, option_in, requests_in};
 use clap::ArgMatches;
-use task_files::InputPaths;
 
 /// Requests that are answered by the tables of a folder, and by folders of games.
 #[derive(Clone, Copy)]
@@ -109,12 +107,5 @@ impl<'a> Serve<'a> {
             other: other_in(matches)?,
             log: is_set(matches.get_str("log")),
         })
-    }
-
-    /// What is read for it before it answers: nothing, since it reads its manifest and its folders itself.
-    pub(crate) fn places(&self) -> InputPaths<'a>
-        ensures { named_by result ≡ named }
-    {
-        InputPaths::none()
     }
 }

@@ -2,11 +2,10 @@
 
 ghost use Rattle.std.specs.Prelude.{◌≡◌, IfErr, IfOk, OnOk, codes};
 ghost use Rattle.clap.specs.Words.{first_value, found_of};
-ghost use Rattle.command_line.specs.Commands.Status.{HasValues, faults, named, report_by};
+ghost use Rattle.command_line.specs.Commands.Status.{HasValues, faults, report_by};
 ghost use Rattle.command_line.specs.declared.words.usage.Instead.TheVariants.{Prometheus};
 ghost use Rattle.command_line.specs.Misuses.{IsFirstMisuse, IsToldMisuse, Holds, FlagNotWith, fault_words};
 ghost use Rattle.command_line.specs.Numbers.{is_set};
-ghost use Rattle.task_files.specs.Sources.{named_by};
 
 use crate::commands::options::{GAMES, OTHER_GAMES};
 use crate::commands::{Form, Group, Stands, Summary, Value};
@@ -15,7 +14,6 @@ use crate::words::usage::{Instead, ValueFault};
 use crate::words::values::{option_in, without_flag};
 use clap::ArgMatches;
 use game_status::ReportForm;
-use task_files::InputPaths;
 
 /// How far the games of a folder have come.
 #[derive(Clone, Copy)]
@@ -94,12 +92,5 @@ impl<'a> ShowStatus<'a> {
             other: matches.get_str("other"),
             report: report_in(matches)?,
         })
-    }
-
-    /// What is read for it before it answers: nothing, since it reads its folders itself.
-    pub(crate) fn places(&self) -> InputPaths<'a>
-        ensures { named_by result ≡ named }
-    {
-        InputPaths::none()
     }
 }

@@ -2,10 +2,10 @@
 
 ghost use Rattle.std.specs.Prelude.{◌≡◌, ◌++◌, [], ◌∷◌, ℕ, List, false, Some, codes};
 ghost use Rattle.hex.specs.Hex.{encode_lower};
-ghost use Rattle.command_line.specs.Inside.Putting.{IsCommandHint, IsOptionHint, hinted};
-ghost use Rattle.command_line.specs.Putting.{IsPut};
+ghost use Rattle.command_line.specs.Inside.Putting.{IsCommandHint, IsOptionHint, IsRefusedLine, Puts, Tells, hinted, words_behind};
 ghost use Rattle.command_line.specs.Misuses.{fault_words};
-ghost use Rattle.command_line.specs.Uses.{GoesOut, TellsMisuse, behind_line, help_head, help_line, is_plain_byte, near_line, shown_byte, shown_bytes, shown_line};
+ghost use Rattle.command_line.specs.Uses.{TellsMisuse, behind_line, help_head, help_line, is_plain_byte, near_line, shown_byte, shown_bytes, shown_line};
+ghost use Rattle.timeline.specs.Outsides.{AddsSome};
 
 use crate::commands::Name;
 use crate::words::help::{list_of, use_of};
@@ -13,7 +13,8 @@ use crate::words::near::{near_command, near_option};
 use crate::words::usage::{Misuse, ValueFault};
 use clap::error::ErrorKind;
 use std::alloc::Global;
-use system_io::{Output, WriteFault};
+use system_io::WriteFault;
+use timeline::{Stream, System};
 
 /// Whether a byte is printed as it is.
 fn is_plain(byte: u8) -> bool
@@ -22,11 +23,11 @@ fn is_plain(byte: u8) -> bool
     32 <= byte && byte <= 126 && byte != b'\\'
 }
 
-/// Writes bytes to their end.
-pub fn put<E: Output>(errors: &mut E, bytes: &[u8]) -> Result<(), WriteFault>
-    ensures { IsPut E.facts E.contents errors.old errors.new bytes.now result }
+/// Writes bytes to standard error, to their end.
+fn put<S: System>(system: &S, timeline: &mut S::Timeline, bytes: &[u8]) -> Result<(), WriteFault>
+    ensures { Puts (S.outside system.now) timeline.old timeline.new bytes.now result }
 {
-    errors.put(bytes)
+    system.write(timeline, Stream::Errors, bytes)
 }
 
 /// The number of a byte in hexadecimal digits.
@@ -40,33 +41,37 @@ fn digits_of(byte: u8) -> [u8; 2]
 }
 
 /// Writes a byte by its number.
-fn put_number<E: Output>(errors: &mut E, byte: u8) -> Result<(), WriteFault>
-    ensures { is_plain_byte byte ≡ false → IsPut E.facts E.contents errors.old errors.new (shown_byte byte) result }
+fn put_number<S: System>(system: &S, timeline: &mut S::Timeline, byte: u8) -> Result<(), WriteFault>
+    ensures { is_plain_byte byte ≡ false → Puts (S.outside system.now) timeline.old timeline.new (shown_byte byte) result }
 {
     let digits = digits_of(byte);
-    match put(errors, b"\\x") {
-        Ok(()) => put(errors, &digits),
+    match put(system, timeline, b"\\x") {
+        Ok(()) => put(system, timeline, &digits),
         Err(fault) => Err(fault),
     }
 }
 
 /// Writes a byte as it is printed.
-fn put_byte<E: Output>(errors: &mut E, byte: u8) -> Result<(), WriteFault>
-    ensures { IsPut E.facts E.contents errors.old errors.new (shown_byte byte) result }
+fn put_byte<S: System>(system: &S, timeline: &mut S::Timeline, byte: u8) -> Result<(), WriteFault>
+    ensures { Puts (S.outside system.now) timeline.old timeline.new (shown_byte byte) result }
 {
     if is_plain(byte) {
-        put(errors, &[byte])
+        put(system, timeline, &[byte])
     } else {
-        put_number(errors, byte)
+        put_number(system, timeline, byte)
     }
 }
 
 /// Writes words as they are printed.
-fn put_shown<E: Output>(errors: &mut E, words: &[u8]) -> Result<(), WriteFault>
-    ensures { IsPut E.facts E.contents errors.old errors.new (shown_bytes words.now) result }
+fn put_shown<S: System>(
+    system: &S,
+    timeline: &mut S::Timeline,
+    words: &[u8],
+) -> Result<(), WriteFault>
+    ensures { Puts (S.outside system.now) timeline.old timeline.new (shown_bytes words.now) result }
 {
     for byte in words {
-        match put_byte(errors, *byte) {
+        match put_byte(system, timeline, *byte) {
             Ok(()) => {}
             Err(fault) => return Err(fault),
         }
@@ -75,57 +80,65 @@ fn put_shown<E: Output>(errors: &mut E, words: &[u8]) -> Result<(), WriteFault>
 }
 
 /// Writes words of two parts.
-fn put_two<E: Output>(errors: &mut E, front: &[u8], rest: &[u8]) -> Result<(), WriteFault>
-    ensures { IsPut E.facts E.contents errors.old errors.new (shown_bytes (front.now ++ rest.now)) result }
+fn put_two<S: System>(
+    system: &S,
+    timeline: &mut S::Timeline,
+    front: &[u8],
+    rest: &[u8],
+) -> Result<(), WriteFault>
+    ensures { Puts (S.outside system.now) timeline.old timeline.new (shown_bytes (front.now ++ rest.now)) result }
 {
-    match put_shown(errors, front) {
-        Ok(()) => put_shown(errors, rest),
+    match put_shown(system, timeline, front) {
+        Ok(()) => put_shown(system, timeline, rest),
         Err(fault) => Err(fault),
     }
 }
 
 /// Writes words of three parts.
-fn put_three<E: Output>(
-    errors: &mut E,
+fn put_three<S: System>(
+    system: &S,
+    timeline: &mut S::Timeline,
     front: &[u8],
     middle: &[u8],
     rest: &[u8],
 ) -> Result<(), WriteFault>
-    ensures { IsPut E.facts E.contents errors.old errors.new (shown_bytes (front.now ++ middle.now ++ rest.now)) result }
+    ensures { Puts (S.outside system.now) timeline.old timeline.new (shown_bytes (front.now ++ middle.now ++ rest.now)) result }
 {
-    match put_two(errors, front, middle) {
-        Ok(()) => put_shown(errors, rest),
+    match put_two(system, timeline, front, middle) {
+        Ok(()) => put_shown(system, timeline, rest),
         Err(fault) => Err(fault),
     }
 }
 
 /// Writes a line of words of three parts.
-fn put_line<E: Output>(
-    errors: &mut E,
+fn put_line<S: System>(
+    system: &S,
+    timeline: &mut S::Timeline,
     front: &[u8],
     middle: &[u8],
     rest: &[u8],
 ) -> Result<(), WriteFault>
-    ensures { IsPut E.facts E.contents errors.old errors.new (shown_line (front.now ++ middle.now ++ rest.now)) result }
+    ensures { Puts (S.outside system.now) timeline.old timeline.new (shown_line (front.now ++ middle.now ++ rest.now)) result }
 {
-    match put_three(errors, front, middle, rest) {
-        Ok(()) => put(errors, b"\n"),
+    match put_three(system, timeline, front, middle, rest) {
+        Ok(()) => put(system, timeline, b"\n"),
         Err(fault) => Err(fault),
     }
 }
 
 /// Writes three texts as they are, one behind the other.
-fn put_texts<E: Output>(
-    errors: &mut E,
+fn put_texts<S: System>(
+    system: &S,
+    timeline: &mut S::Timeline,
     front: &[u8],
     middle: &[u8],
     rest: &[u8],
 ) -> Result<(), WriteFault>
-    ensures { IsPut E.facts E.contents errors.old errors.new (front.now ++ middle.now ++ rest.now) result }
+    ensures { Puts (S.outside system.now) timeline.old timeline.new (front.now ++ middle.now ++ rest.now) result }
 {
-    match put(errors, front) {
-        Ok(()) => match put(errors, middle) {
-            Ok(()) => put(errors, rest),
+    match put(system, timeline, front) {
+        Ok(()) => match put(system, timeline, middle) {
+            Ok(()) => put(system, timeline, rest),
             Err(fault) => Err(fault),
         },
         Err(fault) => Err(fault),
@@ -144,25 +157,46 @@ pub(crate) enum Hint<'w> {
 }
 
 /// Asks for a word that may be meant, in a line.
-fn put_hint<E: Output>(errors: &mut E, hint: Hint<'_>) -> Result<(), WriteFault>
-    ensures { IsPut E.facts E.contents errors.old errors.new (near_line (hinted hint.entry)) result }
+fn put_hint<S: System>(
+    system: &S,
+    timeline: &mut S::Timeline,
+    hint: Hint<'_>,
+) -> Result<(), WriteFault>
+    ensures { Puts (S.outside system.now) timeline.old timeline.new (near_line (hinted hint.entry)) result }
 {
     match hint {
         Hint::Nothing => Ok(()),
-        Hint::Command(word) => put_texts(errors, b"did you mean ", word.as_bytes(), b"?\n"),
-        Hint::Option(word) => put_texts(errors, b"did you mean --", word.as_bytes(), b"?\n"),
+        Hint::Command(word) => put_texts(
+            system,
+            timeline,
+            b"did you mean ",
+            word.as_bytes(),
+            b"?\n",
+        ),
+        Hint::Option(word) => put_texts(
+            system,
+            timeline,
+            b"did you mean --",
+            word.as_bytes(),
+            b"?\n",
+        ),
     }
 }
 
 /// Writes the line that names help: of a command, or all of it.
-fn put_help<E: Output>(errors: &mut E, name: Option<Name>) -> Result<(), WriteFault>
-    ensures { IsPut E.facts E.contents errors.old errors.new (help_line name) result }
+fn put_help<S: System>(
+    system: &S,
+    timeline: &mut S::Timeline,
+    name: Option<Name>,
+) -> Result<(), WriteFault>
+    ensures { Puts (S.outside system.now) timeline.old timeline.new (help_line name) result }
 {
     match name {
-        None => put(errors, b"see adjudicate help\n"),
+        None => put(system, timeline, b"see adjudicate help\n"),
         Some(name) => {
             put_texts(
-                errors,
+                system,
+                timeline,
                 b"see adjudicate help ",
                 name.word().as_bytes(),
                 b"\n",
@@ -171,97 +205,131 @@ fn put_help<E: Output>(errors: &mut E, name: Option<Name>) -> Result<(), WriteFa
     }
 }
 
-/// Writes what stands behind the line of a misuse.
-fn put_behind<E: Output>(
-    errors: &mut E,
-    hint: Hint<'_>,
+/// What stands behind the line of a misuse.
+#[derive(Clone, Copy)]
+pub(crate) struct Behind<'w> {
+    /// A word that may be meant.
+    hint: Hint<'w>,
+    /// The command whose help is named.
     name: Option<Name>,
+}
+
+impl<'w> Behind<'w> {
+    /// The line that names help of a command, alone.
+    fn help_of(name: Name) -> Behind<'w>
+        ensures { words_behind result ≡ help_line (Some name) }
+    {
+        Behind {
+            hint: Hint::Nothing,
+            name: Some(name),
+        }
+    }
+
+    /// The line that names all of help, behind a word that may be meant.
+    fn all_of_help(hint: Hint<'w>) -> Behind<'w>
+        ensures { words_behind result ≡ behind_line (hinted hint.entry) None }
+    {
+        Behind { hint, name: None }
+    }
+}
+
+/// Writes what stands behind the line of a misuse.
+fn put_behind<S: System>(
+    system: &S,
+    timeline: &mut S::Timeline,
+    behind: Behind<'_>,
 ) -> Result<(), WriteFault>
-    ensures { IsPut E.facts E.contents errors.old errors.new (behind_line (hinted hint.entry) name) result }
+    ensures { Puts (S.outside system.now) timeline.old timeline.new (words_behind behind.entry) result }
 {
-    match put_hint(errors, hint) {
-        Ok(()) => put_help(errors, name),
+    match put_hint(system, timeline, behind.hint) {
+        Ok(()) => put_help(system, timeline, behind.name),
         Err(fault) => Err(fault),
     }
 }
 
 /// Writes what stands behind the line of a misuse, and lets it out.
-fn tell_behind<E: Output>(errors: &mut E, hint: Hint<'_>, name: Option<Name>)
-    ensures { GoesOut E.facts E.contents errors.old errors.new (behind_line (hinted hint.entry) name) }
+fn tell_behind<S: System>(system: &S, timeline: &mut S::Timeline, behind: Behind<'_>)
+    ensures { Tells (S.outside system.now) timeline.old timeline.new (words_behind behind.entry) }
 {
-    match put_behind(errors, hint, name) {
+    match put_behind(system, timeline, behind) {
         Ok(()) => {
-            let _out = errors.flush_all().is_ok();
+            let _out = system.flush(timeline, Stream::Errors);
         }
         Err(_) => {}
     }
 }
 
-/// Writes words of three parts in one line, a near word, and where help is.
-fn tell_line<E: Output>(
-    errors: &mut E,
+/// Writes words of three parts in one line, and what stands behind it.
+fn tell_line<S: System>(
+    system: &S,
+    timeline: &mut S::Timeline,
     front: &str,
     middle: &[u8],
     rest: &str,
-    hint: Hint<'_>,
-    name: Option<Name>,
+    behind: Behind<'_>,
 )
-    ensures { GoesOut E.facts E.contents errors.old errors.new (shown_line (front.now ++ middle.now ++ rest.now) ++ behind_line (hinted hint.entry) name) }
+    ensures { Tells (S.outside system.now) timeline.old timeline.new (shown_line (front.now ++ middle.now ++ rest.now) ++ words_behind behind.entry) }
 {
-    match put_line(errors, front.as_bytes(), middle, rest.as_bytes()) {
-        Ok(()) => tell_behind(errors, hint, name),
+    match put_line(system, timeline, front.as_bytes(), middle, rest.as_bytes()) {
+        Ok(()) => tell_behind(system, timeline, behind),
         Err(_) => {}
     }
 }
 
 /// Writes a text, and lets it out.
-fn tell_text<E: Output>(errors: &mut E, text: &str)
-    ensures { GoesOut E.facts E.contents errors.old errors.new text.now }
+fn tell_text<S: System>(system: &S, timeline: &mut S::Timeline, text: &str)
+    ensures { Tells (S.outside system.now) timeline.old timeline.new text.now }
 {
-    match put(errors, text.as_bytes()) {
+    match put(system, timeline, text.as_bytes()) {
         Ok(()) => {
-            let _gone = errors.flush_all().is_ok();
+            let _gone = system.flush(timeline, Stream::Errors);
         }
         Err(_) => {}
     }
 }
 
 /// Writes the list of commands, or a line where memory for it is refused.
-fn tell_list<E: Output>(alloc: Global, errors: &mut E)
-    ensures { (list : List ℕ) × GoesOut E.facts E.contents errors.old errors.new list }
+fn tell_list<S: System>(alloc: Global, system: &S, timeline: &mut S::Timeline)
+    ensures { (list : List ℕ) × Tells (S.outside system.now) timeline.old timeline.new list }
 {
     match list_of(alloc) {
-        Ok(list) => tell_text(errors, list.as_str()),
-        Err(_) => tell_text(errors, "refused memory\n"),
+        Ok(list) => tell_text(system, timeline, list.as_str()),
+        Err(_) => tell_text(system, timeline, "refused memory\n"),
     }
 }
 
 /// Writes that there is no command, and the list of commands.
-fn tell_no_command<E: Output>(alloc: Global, errors: &mut E)
-    ensures { (list : List ℕ) × GoesOut E.facts E.contents errors.old errors.new (shown_line (codes "no command") ++ list) }
+fn tell_no_command<S: System>(alloc: Global, system: &S, timeline: &mut S::Timeline)
+    ensures { (list : List ℕ) × Tells (S.outside system.now) timeline.old timeline.new (shown_line (codes "no command") ++ list) }
 {
-    match put_line(errors, b"no command", b"", b"") {
-        Ok(()) => tell_list(alloc, errors),
+    match put_line(system, timeline, b"no command", b"", b"") {
+        Ok(()) => tell_list(alloc, system, timeline),
         Err(_) => {}
     }
 }
 
 /// Writes what help of a command says behind its name, or a line where memory for it is refused.
-fn tell_use<E: Output>(alloc: Global, errors: &mut E, name: Name)
-    ensures { (rest : List ℕ) × GoesOut E.facts E.contents errors.old errors.new rest }
+fn tell_use<S: System>(alloc: Global, system: &S, timeline: &mut S::Timeline, name: Name)
+    ensures { (rest : List ℕ) × Tells (S.outside system.now) timeline.old timeline.new rest }
 {
     match use_of(alloc, name) {
-        Ok(text) => tell_text(errors, text.as_str()),
-        Err(_) => tell_text(errors, "refused memory\n"),
+        Ok(text) => tell_text(system, timeline, text.as_str()),
+        Err(_) => tell_text(system, timeline, "refused memory\n"),
     }
 }
 
 /// Writes the help of a command.
-fn tell_help_of<E: Output>(alloc: Global, errors: &mut E, name: Name)
-    ensures { (rest : List ℕ) × GoesOut E.facts E.contents errors.old errors.new (help_head name ++ rest) }
+fn tell_help_of<S: System>(alloc: Global, system: &S, timeline: &mut S::Timeline, name: Name)
+    ensures { (rest : List ℕ) × Tells (S.outside system.now) timeline.old timeline.new (help_head name ++ rest) }
 {
-    match put_texts(errors, b"adjudicate ", name.word().as_bytes(), b": ") {
-        Ok(()) => tell_use(alloc, errors, name),
+    match put_texts(
+        system,
+        timeline,
+        b"adjudicate ",
+        name.word().as_bytes(),
+        b": ",
+    ) {
+        Ok(()) => tell_use(alloc, system, timeline, name),
         Err(_) => {}
     }
 }
@@ -307,86 +375,124 @@ fn command_hint<'w>(alloc: Global, word: &str) -> Hint<'w>
 
 /// Writes why the parser of command lines refuses words: in its own words, or, where memory for these is refused, by
 /// its name for the fault.
-fn tell_refused<E: Output>(alloc: Global, errors: &mut E, name: Name, error: &clap::Error)
-    ensures { (words : List ℕ) × ((hint : Hint) × IsOptionHint name hint × GoesOut E.facts E.contents errors.old errors.new (shown_line words ++ behind_line (hinted hint) (Some name))) }
+fn tell_refused<S: System>(
+    alloc: Global,
+    system: &S,
+    timeline: &mut S::Timeline,
+    name: Name,
+    error: &clap::Error,
+)
+    ensures { (text : List ℕ) × IsRefusedLine name text × Tells (S.outside system.now) timeline.old timeline.new text }
 {
     match format!(in alloc; "{error}") {
         Ok(text) => {
             let words = first_words(text.as_str());
-            let hint = option_hint(alloc, name, error.kind(), words);
-            tell_line(errors, words, b"", "", hint, Some(name))
+            let behind = Behind {
+                hint: option_hint(alloc, name, error.kind(), words),
+                name: Some(name),
+            };
+            tell_line(system, timeline, words, b"", "", behind)
         }
         Err(_) => {
             let words = error.kind().as_str().unwrap_or("");
-            tell_line(errors, words, b"", "", Hint::Nothing, Some(name))
+            tell_line(system, timeline, words, b"", "", Behind::help_of(name))
         }
     }
 }
 
 /// Writes a name or a value between words in one line, and where help of a command is.
-fn tell_name<E: Output>(errors: &mut E, front: &str, text: &str, rest: &str, name: Name)
-    ensures { GoesOut E.facts E.contents errors.old errors.new (shown_line (front.now ++ text.now ++ rest.now) ++ help_line (Some name)) }
+fn tell_name<S: System>(
+    system: &S,
+    timeline: &mut S::Timeline,
+    front: &str,
+    text: &str,
+    rest: &str,
+    name: Name,
+)
+    ensures { Tells (S.outside system.now) timeline.old timeline.new (shown_line (front.now ++ text.now ++ rest.now) ++ help_line (Some name)) }
 {
     tell_line(
-        errors,
+        system,
+        timeline,
         front,
         text.as_bytes(),
         rest,
-        Hint::Nothing,
-        Some(name),
+        Behind::help_of(name),
     );
 }
 
 /// Writes a fault of the values of a command.
-fn tell_fault<E: Output>(errors: &mut E, fault: &ValueFault<'_>, name: Name)
-    ensures { GoesOut E.facts E.contents errors.old errors.new (shown_line (fault_words fault.now) ++ help_line (Some name)) }
+fn tell_fault<S: System>(system: &S, timeline: &mut S::Timeline, fault: &ValueFault<'_>, name: Name)
+    ensures { Tells (S.outside system.now) timeline.old timeline.new (shown_line (fault_words fault.now) ++ help_line (Some name)) }
 {
     match *fault {
-        ValueFault::NoOption(option) => tell_name(errors, "--", option, " is missing", name),
-        ValueFault::NoWord(word) => tell_name(errors, "", word, " is missing", name),
+        ValueFault::NoOption(option) => tell_name(
+            system,
+            timeline,
+            "--",
+            option,
+            " is missing",
+            name,
+        ),
+        ValueFault::NoWord(word) => tell_name(system, timeline, "", word, " is missing", name),
         ValueFault::Unfit(wanted, text) => {
-            tell_name(errors, wanted.front(), text, wanted.rest(), name)
+            tell_name(system, timeline, wanted.front(), text, wanted.rest(), name)
         }
         ValueFault::NotWith(instead, option) => {
-            tell_name(errors, "--", option, instead.rest(), name)
+            tell_name(system, timeline, "--", option, instead.rest(), name)
         }
         ValueFault::WordNotWith(instead, word) => {
-            tell_name(errors, "", word, instead.rest(), name)
+            tell_name(system, timeline, "", word, instead.rest(), name)
         }
         ValueFault::Beside(option) => {
-            tell_name(errors, "--", option, " cannot be used with --game", name)
+            tell_name(
+                system,
+                timeline,
+                "--",
+                option,
+                " cannot be used with --game",
+                name,
+            )
         }
         ValueFault::FlagNotWith(instead, flag) => {
-            tell_name(errors, "--", flag, instead.rest(), name)
+            tell_name(system, timeline, "--", flag, instead.rest(), name)
         }
         ValueFault::WithoutGames(option) => {
-            tell_name(errors, "--", option, " needs --games", name)
+            tell_name(system, timeline, "--", option, " needs --games", name)
         }
     }
 }
 
-/// Writes the fault of the words in one line; then, where a command's word or an option's is near to one that is unknown, a line that
-/// asks whether that is meant; and last the line that names help, of the command where there is one. For a request for help it
+/// Writes the fault of the words to standard error in one line; then, where a command's word or an option's is near to one that is unknown, a
+/// line that asks whether that is meant; and last the line that names help, of the command where there is one. For a request for help it
 /// writes the list of commands, or the use of a command. Where there is no word the list of commands stands behind the line.
 ///
 /// A byte outside those from the space to the tilde is printed by its number, as `\x0a`, and so is a backslash. All of
-/// it is flushed. A failure of `errors` changes nothing.
-pub fn tell_misuse<E: Output>(alloc: Global, errors: &mut E, misuse: &Misuse<'_>)
-    ensures { TellsMisuse E.facts E.contents errors.old errors.new misuse.now }
+/// it is flushed. A failure of standard error changes nothing.
+pub fn tell_misuse<S: System>(
+    alloc: Global,
+    system: &S,
+    timeline: &mut S::Timeline,
+    misuse: &Misuse<'_>,
+)
+    ensures { AddsSome (S.outside system.now) timeline.old timeline.new (TellsMisuse (S.outside system.now) timeline.new misuse.now) }
 {
     match misuse {
-        Misuse::NoCommand => tell_no_command(alloc, errors),
-        Misuse::Help => tell_list(alloc, errors),
-        Misuse::HelpOf(name) => tell_help_of(alloc, errors, *name),
-        Misuse::NoText(word) => tell_line(errors, "no text ", word, "", Hint::Nothing, None),
+        Misuse::NoCommand => tell_no_command(alloc, system, timeline),
+        Misuse::Help => tell_list(alloc, system, timeline),
+        Misuse::HelpOf(name) => tell_help_of(alloc, system, timeline, *name),
+        Misuse::NoText(word) => {
+            let behind = Behind::all_of_help(Hint::Nothing);
+            tell_line(system, timeline, "no text ", word, "", behind)
+        }
         Misuse::UnknownCommand(word) => {
-            let hint = command_hint(alloc, word);
-            tell_line(errors, "no command ", word.as_bytes(), "", hint, None)
+            let behind = Behind::all_of_help(command_hint(alloc, word));
+            tell_line(system, timeline, "no command ", word.as_bytes(), "", behind)
         }
         Misuse::Refused(name, error) => match error.kind() {
-            ErrorKind::DisplayHelp => tell_help_of(alloc, errors, *name),
-            _ => tell_refused(alloc, errors, *name, error),
+            ErrorKind::DisplayHelp => tell_help_of(alloc, system, timeline, *name),
+            _ => tell_refused(alloc, system, timeline, *name, error),
         },
-        Misuse::Value(name, fault) => tell_fault(errors, fault, *name),
+        Misuse::Value(name, fault) => tell_fault(system, timeline, fault, *name),
     }
 }

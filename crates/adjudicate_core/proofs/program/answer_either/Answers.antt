@@ -1,9 +1,9 @@
 use Rattle.std.proofs.Common.{refl}
-use Rattle.adjudicate_core.specs.Program.{Beside, OverTimeline}
+use Rattle.adjudicate_core.specs.Program.{BesideTimeline, OverTimeline}
 use Rattle.adjudicate_core.proofs.program.answer_either.Goals as goal
 
 pub returns-in-Ok : goal.returns-in-Ok
-returns-in-Ok g c = OverTimeline c.in-Ok.once c.in-Ok.ensures.0 c.answer.ensures c.in-Ok.ensures.1
+returns-in-Ok g c = OverTimeline c.in-Ok.task c.in-Ok.ensures c.answer.ensures refl
 
 pub returns-in-Err : goal.returns-in-Err
-returns-in-Err g c = Beside c.in-Err.ensures.0 c.in-Err.ensures.1 refl
+returns-in-Err g c = BesideTimeline c.in-Err.serve c.in-Err.ensures c.serve_beside.ensures refl

@@ -41,3 +41,9 @@ returns-in-Enter-clause-made g c = rw c.in-Enter.is c.enter_games.ensures.made
 
 pub returns-in-Send-clause-made : goal.returns-in-Send-clause-made
 returns-in-Send-clause-made g c = rw c.in-Send.is c.send.ensures.made
+
+pub returns-in-Listen-clause-made : goal.returns-in-Listen-clause-made
+returns-in-Listen-clause-made g c = rw c.in-Listen.is c.listen.ensures.made
+
+pub returns-in-Host-clause-made : goal.returns-in-Host-clause-made
+returns-in-Host-clause-made g c = rw c.in-Host.is c.host_games.ensures.made

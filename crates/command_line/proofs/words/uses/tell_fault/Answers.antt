@@ -1,6 +1,6 @@
-use Rattle.std.proofs.Common.{append_assoc}
+use Rattle.std.proofs.Common.{◌++◌, append_assoc}
 use Rattle.std.specs.Prelude.{codes}
-use Rattle.command_line.specs.Misuses.{instead_name}
+use Rattle.command_line.specs.Misuses.{instead_name, range_of, wanted_front}
 use Rattle.command_line.proofs.words.uses.tell_fault.Goals as goal
 
 pub returns-in-NoOption : goal.returns-in-NoOption
@@ -8,6 +8,12 @@ returns-in-NoOption g c = rw c.in-NoOption.is c.tell_name.ensures
 
 pub returns-in-NoWord : goal.returns-in-NoWord
 returns-in-NoWord g c = rw c.in-NoWord.is c.tell_name-in-NoWord.ensures
+
+pub returns-in-Unfit : goal.returns-in-Unfit
+returns-in-Unfit g c =
+    let wanted = c.in-Unfit.wanted in
+    let told = rw (c.front.ensures, c.rest.ensures) at c.tell_name-in-Unfit.ensures in
+    rw c.in-Unfit.is (rw (append_assoc (wanted_front wanted ++ c.in-Unfit.text.now) (codes ": ") (range_of wanted)) told)
 
 pub returns-in-NotWith : goal.returns-in-NotWith
 returns-in-NotWith g c =
