@@ -46,4 +46,4 @@ pub returns-in-Listen-clause-made : goal.returns-in-Listen-clause-made
 returns-in-Listen-clause-made g c = rw c.in-Listen.is c.listen.ensures.made
 
 pub returns-in-Host-clause-made : goal.returns-in-Host-clause-made
-returns-in-Host-clause-made g c = rw c.in-Host.is c.host_games.ensures.made
+returns-in-Host-clause-made g c = rw c.in-Host.is (let h = c.host_games.ensures.made in (h.0, h.1, h.2.0))
