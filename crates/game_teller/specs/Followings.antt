@@ -1,5 +1,5 @@
 -- A game that is followed ply by ply as its moves come, as events: each ply has gone out before the next move is awaited (this project's own).
-use Rattle.std.specs.Prelude.{◌≡◌, ◌≤◌, ◌+◌, ◌-◌, ◌^◌, ◌++◌, ℕ, Bool, true, false, List, [], ◌∷◌, length, map, take, slice_get, Option, Some, None, Ok, Err}
+use Rattle.std.specs.Prelude.{◌≡◌, ◌≤◌, ◌+◌, ◌-◌, ◌^◌, ◌++◌, ℕ, Bool, true, false, List, [], ◌∷◌, length, map, take, slice_get, Option, Some, None, Result, Ok, Err}
 use Rattle.std.specs.Io.KnownBytes.{IsAtEnd}
 use Rattle.std.specs.List.{flat_map}
 use Rattle.std.specs.declared.alloc.AllocError.{AllocError}
@@ -13,15 +13,17 @@ use Rattle.judge_core.specs.Games.{IsOutcome, Rules, position_after_all, verdict
 use Rattle.judge_core.specs.MoreTables.{HasAll}
 use Rattle.judge_core.specs.Tables.{Tables}
 use Rattle.line_events.specs.LineEvents.{AreLinesOf, IsLeftOf, input_stops}
-use Rattle.answer_parts.specs.Printing.{printed}
+use Rattle.answer_parts.specs.Printing.{Performs, printed}
 use Rattle.line_teller.specs.ToldLines.{refused_memory}
 use Rattle.move_msg.specs.TextLines.{ended}
 use Rattle.move_notation.specs.Notations.{AreMovesIn, Spells}
 use Rattle.system_io.specs.Inputs.{InputFacts}
 use Rattle.system_io.specs.LineReaders.{ReadsLine}
+use Rattle.system_io.specs.declared.output.WriteFault.{WriteFault}
 use Rattle.system_io.specs.declared.reading.ReadFault.{ReadFault}
 use Rattle.system_io.specs.declared.reading.ReadFault.TheVariants as read
 use Rattle.timeline.specs.Events.{Event, Flushed, FromInput, LineRead, LinesOpened, Wrote}
+use Rattle.timeline.specs.Outsides.{AddsSome, Outside}
 use Rattle.timeline.specs.declared.stream.Stream.TheVariants.{Output}
 use Rattle.table_folder.specs.declared.fault.FileRefusal.{FileRefusal}
 use Rattle.game_teller.specs.declared.following.FollowedGame.{FollowedGame}
@@ -149,3 +151,8 @@ pub data Follows (game : FollowedGame) (judge : JudgeFacts) (Stops : ReadFault �
 pub data FollowsInput (game : FollowedGame) (judge : JudgeFacts) (input : InputFacts) (events : List Event) (status : Option ℕ) : Type 0 where
   LinesFollowed : (left : Option (List ℕ)) (then : List Event) → IsLeftOf input left → Follows game judge (input_stops input) left then status → events ≡ LinesOpened FromInput true ∷ then → FollowsInput game judge input events status
   NoLines : input.takes_memory → events ≡ LinesOpened FromInput false ∷ printed (refused_memory ∷ []) → status ≡ Some 1 → FollowsInput game judge input events status
+
+-- from one moment to another a game is followed whose moves come on the input, and nothing else happens; where the output failed, a front of that
+-- does
+abbrev pub FollowsInputMoves : {T P F K S L : Type 0} → Outside T P F K S L → JudgeFacts → FollowedGame → T → T → Result ℕ WriteFault → Type 0
+FollowsInputMoves o judge game t t' result = AddsSome o t t' (Performs (FollowsInput game judge o.input) result)

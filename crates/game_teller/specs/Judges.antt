@@ -9,8 +9,10 @@ use Rattle.judge_core.specs.Games.{Rules}
 use Rattle.judge_core.specs.MoreTables.{HasAll}
 use Rattle.judge_core.specs.Standings.{IsAt, Reached}
 use Rattle.judge_core.specs.Tables.{Tables}
+use Rattle.table_folder.specs.Reads.{refusal_of}
 use Rattle.table_folder.specs.declared.fault.FileRefusal.{FileRefusal}
 use Rattle.timeline.specs.Events.{Event}
+use Rattle.timeline.specs.Outsides.{AddsSome, Outside}
 
 -- what is known of a judge: the tables that are open; by which tables a game may be judged, which are these or have more; where games
 -- stand by the open ones, whatever more come; what is read so that some open tables become others, as a position asks for them, and
@@ -55,3 +57,7 @@ pub record StandsBy (now : JudgeFacts) (start : Parts) (moves : List Moves) (s :
 abbrev pub JudgesOn : JudgeFacts → JudgeFacts → Reached → Parts → Reached → Type 0
 JudgesOn was now s q t =
     (start : Parts) (moves : List Moves) (m : Moves) → was.stands start moves s → position_after s.position m ≡ Some q → StandsBy now start (moves ++ m ∷ []) t
+
+-- from one moment to another nothing happened but that a judge read what a position asks for, and this came of it
+abbrev pub ReadsAt : {T P F K S L A : Type 0} → Outside T P F K S L → JudgeFacts → JudgeFacts → Parts → T → T → Result (Result A FileRefusal) AllocError → Type 0
+ReadsAt o was now p t t' result = AddsSome o t t' (was.reads was.opened p now.opened (refusal_of result))

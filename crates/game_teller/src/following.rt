@@ -3,8 +3,8 @@
 ghost use Rattle.std.specs.Prelude.{◌≡◌, ◌<◌, ◌^◌, ◌-◌, IfErr, IfOk, OnErr, Some};
 ghost use Rattle.board_core.specs.ComputedMoves.{position_after};
 ghost use Rattle.board_core.specs.declared.moves.Move.{Move as Moves};
-ghost use Rattle.game_teller.specs.Followings.{Follows, FollowsInput, stop_by};
-ghost use Rattle.game_teller.specs.Inside.Steps.{Begins, IsNoNext, PrintsPly, TakesTurn, TurnsByLine, TurnsRead};
+ghost use Rattle.game_teller.specs.Followings.{FollowsInputMoves, stop_by};
+ghost use Rattle.game_teller.specs.Inside.Steps.{Begins, FollowsIn, IsNoNext, PlaysIn, PrintsIn, PrintsPly, TurnsIn};
 ghost use Rattle.game_teller.specs.Judges.{IsLater};
 ghost use Rattle.answer_parts.specs.Printing.{OutputFails, Performs};
 ghost use Rattle.line_teller.specs.ToldLines.{stops_by};
@@ -99,7 +99,7 @@ impl FollowState {
     ) -> Result<(), Stop>
         requires from { J.reads_from judge.old system.now }
         requires more { self.old.ply < 2 ^ 64 - 1 }
-        ensures made { AddsSome (S.outside system.now) timeline.old timeline.new (TurnsByLine (J.facts judge.old) (J.facts judge.new) self.old line.now self.new result) }
+        ensures made { PlaysIn (S.outside system.now) (J.facts judge.old) (J.facts judge.new) self.old self.new line.now timeline.old timeline.new result }
         ensures later { IsLater (J.facts judge.old) (J.facts judge.new) }
         ensures still { J.reads_from judge.new system.now }
     {
@@ -155,7 +155,7 @@ impl FollowState {
     ) -> Result<Step, WriteFault>
         requires from { J.reads_from judge.old system.now }
         requires more { self.old.ply < 2 ^ 64 - 1 }
-        ensures made { AddsSome (S.outside system.now) timeline.old timeline.new (Performs (TurnsRead (J.facts judge.old) (J.facts judge.new) self.old line.now self.new) result) }
+        ensures made { PrintsIn (S.outside system.now) (J.facts judge.old) (J.facts judge.new) self.old self.new line.now timeline.old timeline.new result }
         ensures cause { OnErr result (OutputFails (S.outside system.now)) }
         ensures later { IsLater (J.facts judge.old) (J.facts judge.new) }
         ensures still { J.reads_from judge.new system.now }
@@ -183,7 +183,7 @@ impl FollowState {
     ) -> Result<Step, WriteFault>
         requires from { J.reads_from judge.old system.now }
         requires more { self.old.ply < 2 ^ 64 - 1 }
-        ensures made { AddsSome (S.outside system.now) timeline.old timeline.new (Performs (TakesTurn (J.facts judge.old) (J.facts judge.new) self.old self.new (stops_by ((S.outside system.now).lines lines.old)) ((S.outside system.now).lines lines.old).left ((S.outside system.now).lines lines.new).left) result) }
+        ensures made { TurnsIn (S.outside system.now) (J.facts judge.old) (J.facts judge.new) self.old self.new lines.old lines.new timeline.old timeline.new result }
         ensures cause { OnErr result (OutputFails (S.outside system.now)) }
         ensures stops { (fault : ReadFault) → stops_by ((S.outside system.now).lines lines.new) fault → stops_by ((S.outside system.now).lines lines.old) fault }
         ensures later { IsLater (J.facts judge.old) (J.facts judge.new) }
@@ -241,7 +241,7 @@ fn follow_lines<S: System, J: PlyJudge<S>>(
     lines: &mut S::Lines,
 ) -> Result<u8, WriteFault>
     requires { J.reads_from judge.old system.now }
-    ensures made { AddsSome (S.outside system.now) timeline.old timeline.new (Performs (Follows game.now (J.facts judge.old) (stops_by ((S.outside system.now).lines lines.old)) ((S.outside system.now).lines lines.old).left) result) }
+    ensures made { FollowsIn (S.outside system.now) (J.facts judge.old) game.now lines.old timeline.old timeline.new result }
     ensures cause { OnErr result (OutputFails (S.outside system.now)) }
 {
     let mut course = match begun(alloc, game, judge, system, timeline) {
@@ -284,7 +284,7 @@ pub fn follow_game<S: System, J: PlyJudge<S>>(
     timeline: &mut S::Timeline,
 ) -> Result<u8, WriteFault>
     requires { J.reads_from judge.old system.now }
-    ensures made { AddsSome (S.outside system.now) timeline.old timeline.new (Performs (FollowsInput game.now (J.facts judge.old) (S.outside system.now).input) result) }
+    ensures made { FollowsInputMoves (S.outside system.now) (J.facts judge.old) game.now timeline.old timeline.new result }
     ensures cause { OnErr result (OutputFails (S.outside system.now)) }
 {
     match system.input_lines(timeline, alloc) {

@@ -1,9 +1,7 @@
 //! What judges the plies of a game.
 
 ghost use Rattle.std.specs.Prelude.{[], IfErr, IfOk, OnErr};
-ghost use Rattle.game_teller.specs.Judges.{IsLater, JudgeFacts, JudgesOn, StandsBy};
-ghost use Rattle.table_folder.specs.Reads.{refusal_of};
-ghost use Rattle.timeline.specs.Outsides.{AddsSome};
+ghost use Rattle.game_teller.specs.Judges.{IsLater, JudgeFacts, JudgesOn, ReadsAt, StandsBy};
 
 use board_core::Position;
 use judge_core::{Set, Standing};
@@ -33,7 +31,7 @@ pub trait PlyJudge<S: System> {
         ensures refused { IfOk result (λ found. IfErr found ((facts self.old).refuses start.now)) }
         ensures memory { OnErr result ((facts self.old).takes_memory start.now) }
         ensures later { IsLater (facts self.old) (facts self.new) }
-        ensures made { AddsSome (S.outside system.now) timeline.old timeline.new ((facts self.old).reads (facts self.old).opened start.now (facts self.new).opened (refusal_of result)) }
+        ensures made { ReadsAt (S.outside system.now) (facts self.old) (facts self.new) start.now timeline.old timeline.new result }
         ensures still { reads_from self.new system.now };
 
     /// Where a game stands one legal move later, which led to this position; or the refusal of the file of a table that the position
@@ -51,7 +49,7 @@ pub trait PlyJudge<S: System> {
         ensures refused { IfOk result (λ found. IfErr found ((facts self.old).refuses position)) }
         ensures memory { OnErr result ((facts self.old).takes_memory position) }
         ensures later { IsLater (facts self.old) (facts self.new) }
-        ensures made { AddsSome (S.outside system.now) timeline.old timeline.new ((facts self.old).reads (facts self.old).opened position (facts self.new).opened (refusal_of result)) }
+        ensures made { ReadsAt (S.outside system.now) (facts self.old) (facts self.new) position timeline.old timeline.new result }
         ensures still { reads_from self.new system.now };
 }
 

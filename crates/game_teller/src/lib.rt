@@ -6,8 +6,8 @@
 //!
 //! Inside: `lines` (the lines), `judging` (the judge: the trait, and its instance by a set of tables), `following` (the run), `laws`.
 //!
-//! Definitions, in reading order: `Judges`, `Plies`, `Followings` (`HasFollowed`, `StopsAfter`, `Follows`, `FollowsInput`), over `IsOutcome`
-//! of judge_core and `AreLinesOf` of line_events; `Agreements`; over `Notations` of move_notation. Its cases stand in `follow.txt` and
+//! Definitions, in reading order: `Judges`, `Plies`, `Followings` (`HasFollowed`, `StopsAfter`, `Follows`, `FollowsInput`, `FollowsInputMoves`), over
+//! `IsOutcome` of judge_core and `AreLinesOf` of line_events; `Agreements`; over `Notations` of move_notation. Its cases stand in `follow.txt` and
 //! `san.txt` of `rows`.
 //!
 //! - CLAIM: `PlyJudge::begin`, clauses `begun`, `refused`, `memory`, `later`; `PlyJudge::move_on`, clauses `on`, `refused`, `memory`, `later`: where a game stands by

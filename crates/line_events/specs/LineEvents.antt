@@ -8,12 +8,14 @@ use Rattle.line_teller.specs.declared.told_lines.TellFault.TheVariants as tell
 use Rattle.move_msg.specs.TextLines.{ended, lines_in}
 use Rattle.system_io.specs.Inputs.{InputFacts}
 use Rattle.system_io.specs.LineReaders.{ReadsLine}
+use Rattle.system_io.specs.declared.output.WriteFault.{WriteFault}
 use Rattle.system_io.specs.declared.reading.ReadFault.{ReadFault}
 use Rattle.system_io.specs.declared.reading.ReadFault.TheVariants as read
 use Rattle.task_files.specs.TableLooks.{SaysProgress}
 use Rattle.timeline.specs.Events.{Event, Flushed, FromInput, LineRead, LinesOpened, Wrote}
+use Rattle.timeline.specs.Outsides.{AddsSome, Outside}
 use Rattle.timeline.specs.declared.stream.Stream.TheVariants.{Output}
-use Rattle.answer_parts.specs.Printing.{IsCutIn, printed}
+use Rattle.answer_parts.specs.Printing.{IsCutIn, Performs, printed}
 use Rattle.answer_parts.specs.Reply.{status_if}
 use Rattle.line_events.specs.declared.lines.Step.{Step}
 use Rattle.line_events.specs.declared.lines.Step.TheVariants as step
@@ -141,3 +143,7 @@ told_status (Some done) = Some (status_if done)
 pub data AnswersInput {K : Type 0} (input : InputFacts) (a : Answering K) (k : K) (progress : Bool) (events : List Event) (status : Option ℕ) : Type 0 where
   LinesAnswered : (left : Option (List ℕ)) (then : List Event) (done : Option Bool) → IsLeftOf input left → AnswersLines a k progress (input_stops input) left then done → events ≡ LinesOpened FromInput true ∷ then → status ≡ told_status done → AnswersInput input a k progress events status
   NoLines : input.takes_memory → events ≡ LinesOpened FromInput false ∷ printed (refused_memory ∷ []) → status ≡ Some 1 → AnswersInput input a k progress events status
+
+-- from one moment to another the lines of the input are answered, and nothing else happens; where the output failed, a front of that does
+abbrev pub AnswersInputLines : {T P F K S L N : Type 0} → Outside T P F K S L → Answering N → N → Bool → T → T → Result ℕ WriteFault → Type 0
+AnswersInputLines o a known progress t t' result = AddsSome o t t' (Performs (AnswersInput o.input a known progress) result)

@@ -6,7 +6,8 @@
 //!
 //! Inside: `lines` (the run), `writing` (an answer).
 //!
-//! Definitions, in reading order: `LineEvents` (`Answering`, `TakesTurn`, `AreTold`, `AnswersLines`, `AnswersInput`), `Writing` (`WritesAnswer`, `at_once`, `while_reading`, `DoesBy`).
+//! Definitions, in reading order: `LineEvents` (`Answering`, `TakesTurn`, `AreTold`, `AnswersLines`, `AnswersInput`, `AnswersInputLines`), `Writing`
+//! (`WritesAnswer`, `at_once`, `while_reading`, `DoesBy`).
 //!
 //! - CLAIM: `answer_lines`, clause `made`: all that happens outside is one list of events. The lines of the input are opened. Then, line by
 //!   line: what was written goes out, or all of the line had come; the line is read; what its answer asks for is read; the answer is

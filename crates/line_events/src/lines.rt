@@ -1,11 +1,10 @@
 //! The answers to the lines of the input as they come, over a system with a timeline.
 
 ghost use Rattle.std.specs.Prelude.{◌≡◌, IsErrOf, OnErr};
-ghost use Rattle.line_events.specs.Inside.Lines.{AnswersRead, GoesOut};
-ghost use Rattle.line_events.specs.LineEvents.{Answering, AnswersInput, AnswersLine, AnswersLines, AnswersNoMore, MayTellProgress, TakesTurn};
-ghost use Rattle.answer_parts.specs.Printing.{OutputFails, Performs};
+ghost use Rattle.line_events.specs.Inside.Lines.{AnswersAllIn, AnswersNextIn, AnswersReadIn, FlushesIn};
+ghost use Rattle.line_events.specs.LineEvents.{Answering, AnswersInputLines, AnswersLine, AnswersNoMore, MayTellProgress};
+ghost use Rattle.answer_parts.specs.Printing.{OutputFails};
 ghost use Rattle.line_teller.specs.ToldLines.{done_words, stops_by};
-ghost use Rattle.timeline.specs.Events.{has_line_feed};
 ghost use Rattle.timeline.specs.Outsides.{AddsSome};
 
 use answer_parts::{print_unread, status_if};
@@ -66,7 +65,7 @@ fn flush_before_line<S: System>(
     timeline: &mut S::Timeline,
     lines: &S::Lines,
 ) -> Result<(), WriteFault>
-    ensures made { AddsSome (S.outside system.now) timeline.old timeline.new (Performs (GoesOut (has_line_feed ((S.outside system.now).lines lines.now).ahead)) result) }
+    ensures made { FlushesIn (S.outside system.now) lines.now timeline.old timeline.new result }
     ensures cause { OnErr result (OutputFails (S.outside system.now)) }
 {
     if system.has_line(lines) {
@@ -83,7 +82,7 @@ fn answer_read<S: System, A: LineAnswerer<S>>(
     line: &[u8],
 ) -> Result<Step, WriteFault>
     requires { A.reads_from answerer.old system.now }
-    ensures made { AddsSome (S.outside system.now) timeline.old timeline.new (Performs (AnswersRead (A.answering answerer.old) (A.known answerer.old) (A.known answerer.new) line.now) result) }
+    ensures made { AnswersReadIn (S.outside system.now) A.answering A.known answerer.old answerer.new line.now timeline.old timeline.new result }
     ensures cause { OnErr result (OutputFails (S.outside system.now)) }
     ensures same { AnswersNoMore (A.answering answerer.old) (A.answering answerer.new) }
     ensures still { A.reads_from answerer.new system.now }
@@ -109,7 +108,7 @@ fn take_turn<S: System, A: LineAnswerer<S>>(
     line: &mut Vec<u8>,
 ) -> Result<Step, WriteFault>
     requires { A.reads_from answerer.old system.now }
-    ensures made { AddsSome (S.outside system.now) timeline.old timeline.new (Performs (TakesTurn (A.answering answerer.old) (A.known answerer.old) (A.known answerer.new) (stops_by ((S.outside system.now).lines lines.old)) ((S.outside system.now).lines lines.old).left ((S.outside system.now).lines lines.new).left) result) }
+    ensures made { AnswersNextIn (S.outside system.now) A.answering A.known answerer.old answerer.new lines.old lines.new timeline.old timeline.new result }
     ensures cause { OnErr result (OutputFails (S.outside system.now)) }
     ensures stops { (fault : ReadFault) → stops_by ((S.outside system.now).lines lines.new) fault → stops_by ((S.outside system.now).lines lines.old) fault }
     ensures same { AnswersNoMore (A.answering answerer.old) (A.answering answerer.new) }
@@ -166,7 +165,7 @@ fn answer_in_turn<S: System, A: LineAnswerer<S>>(
     progress: bool,
 ) -> Result<bool, WriteFault>
     requires { A.reads_from answerer.old system.now }
-    ensures made { AddsSome (S.outside system.now) timeline.old timeline.new (Performs (AnswersLines (A.answering answerer.old) (A.known answerer.old) progress (stops_by ((S.outside system.now).lines lines.old)) ((S.outside system.now).lines lines.old).left) result) }
+    ensures made { AnswersAllIn (S.outside system.now) A.answering A.known answerer.old progress lines.old timeline.old timeline.new result }
     ensures cause { OnErr result (OutputFails (S.outside system.now)) }
 {
     let mut line = Vec::new(alloc);
@@ -203,7 +202,7 @@ pub fn answer_lines<S: System, A: LineAnswerer<S>>(
     progress: bool,
 ) -> Result<u8, WriteFault>
     requires { A.reads_from answerer.old system.now }
-    ensures made { AddsSome (S.outside system.now) timeline.old timeline.new (Performs (AnswersInput (S.outside system.now).input (A.answering answerer.old) (A.known answerer.old) progress) result) }
+    ensures made { AnswersInputLines (S.outside system.now) (A.answering answerer.old) (A.known answerer.old) progress timeline.old timeline.new result }
     ensures cause { OnErr result (OutputFails (S.outside system.now)) }
 {
     let mut lines = match system.input_lines(timeline, alloc) {

@@ -5,6 +5,7 @@ use Rattle.system_io.specs.LineReaders.{ReadsLine}
 use Rattle.system_io.specs.declared.reading.ReadFault.{ReadFault}
 use Rattle.system_io.specs.declared.reading.ReadFault.TheVariants.{OutOfMemory}
 use Rattle.timeline.specs.Events.{Event, LineRead}
+use Rattle.timeline.specs.Outsides.{AddsSome, Outside}
 
 -- what a line was asked for gave: the line, or that there is none; and whether all of it had come before
 pub record LineAsked : Type 0 where
@@ -40,3 +41,7 @@ pub data FailsToRead (left : Option (List ℕ)) (fault : ReadFault) (events : Li
 abbrev pub ReadsFor : {A : Type 0} → Option (List ℕ) → Option (List ℕ) → Result A ReadFault → List Event → Type 0
 ReadsFor left now (Ok a) events = ReadsLines left now events
 ReadsFor left now (Err fault) events = FailsToRead left fault events
+
+-- from one moment to another nothing happened but that some lines were read for something, or couldn't be
+abbrev pub ReadsLinesFor : {T P F K S L A : Type 0} → Outside T P F K S L → L → L → T → T → Result A ReadFault → Type 0
+ReadsLinesFor o lines lines' t t' result = AddsSome o t t' (ReadsFor (o.lines lines).left (o.lines lines').left result)

@@ -1,6 +1,6 @@
 //! What the tokens of a game tell so far.
 
-ghost use Rattle.std.specs.Prelude.{◌≡◌, ◌≤◌, ◌<◌, ◌++◌, ◌∷◌, [], Bool, Some, IfOk, OnErr, OnOk, option_map, vec_len, nat_lt};
+ghost use Rattle.std.specs.Prelude.{◌≡◌, ◌≤◌, ◌<◌, ◌++◌, ◌∷◌, [], IfOk, OnErr, OnOk, option_map, vec_len};
 
 use crate::fault::{Cause, GameFault};
 use crate::game::{Game, GameResult, Reading};
@@ -46,12 +46,10 @@ fn add<T: Copy>(list: &mut Vec<T>, item: T) -> Result<(), AllocError>
 
 impl Course {
     ghost use Rattle.board_core.specs.Moves.{IsLegal};
-    ghost use Rattle.pgn_games.specs.Tags.{tag_by_name, tag_value};
-    ghost use Rattle.pgn_games.specs.Lexemes.{Telling};
     ghost use Rattle.pgn_games.specs.Tokens.{token};
-    ghost use Rattle.pgn_games.specs.Games.{PassesToken, Plays, SetsStart, SetsTag, TakesToken, TakesMove, TakesTag, depth_of, fault_of, no_course, passed, reading_at_end};
-    ghost use Rattle.pgn_games.specs.Inside.Scan.{IsPlainLexeme, lexeme_of, pair_read};
-    ghost use Rattle.pgn_games.specs.Inside.Owned.{TakesOrStays, TakesFirst, course_of};
+    ghost use Rattle.pgn_games.specs.Games.{PassesToken, Plays, SetsStart, TakesToken, depth_of, fault_of, no_course, passed, reading_at_end};
+    ghost use Rattle.pgn_games.specs.Inside.Scan.{ForTold, IsPlainLexeme};
+    ghost use Rattle.pgn_games.specs.Inside.Owned.{SetsTagOf, TakesFirst, TakesMoveOf, TakesOrStays, TakesTagOf, course_of};
     ghost use Rattle.pgn_games.specs.Shown.{reading_of};
 
     /// Nothing yet.
@@ -96,7 +94,7 @@ impl Course {
 
     /// Sets a tag, where it is one that is kept.
     fn set_tag(&mut self, pair: TagPair<'_>) -> Result<Option<Cause>, AllocError>
-        ensures { IfOk result (TakesOrStays (SetsTag (course_of self.old) (tag_value pair.entry.quoted.now) (tag_by_name pair.entry.name.now)) (course_of self.old) (course_of self.new)) }
+        ensures { IfOk result (SetsTagOf pair.entry self.old self.new) }
     {
         let Some(name) = name_of(pair.name) else {
             return Ok(None);
@@ -113,7 +111,7 @@ impl Course {
 
     /// Takes a tag pair, which stands before the movetext.
     fn take_tag(&mut self, pair: TagPair<'_>) -> Result<Option<Cause>, AllocError>
-        ensures { IfOk result (TakesOrStays (TakesTag (course_of self.old) self.old.phase (Some (pair_read pair.entry).pair)) (course_of self.old) (course_of self.new)) }
+        ensures { IfOk result (TakesTagOf pair.entry self.old self.new) }
     {
         match self.phase {
             Phase::Tags => self.set_tag(pair),
@@ -137,7 +135,7 @@ impl Course {
 
     /// Reads a move and plays it.
     fn take_move(&mut self, text: &[u8]) -> Result<Option<Cause>, AllocError>
-        ensures { IfOk result (TakesOrStays (TakesMove (course_of self.old) text.now (nat_lt (vec_len self.old.moves) 4096)) (course_of self.old) (course_of self.new)) }
+        ensures { IfOk result (TakesMoveOf text.now self.old self.new) }
     {
         if self.moves.len() >= MOST_MOVES {
             return Ok(Some(Cause::TooManyMoves));
@@ -155,7 +153,7 @@ impl Course {
     fn take_main(&mut self, lexeme: Lexeme<'_>) -> Result<Option<Cause>, AllocError>
         requires main { depth_of self.old.phase ≡ 0 }
         requires plain { IsPlainLexeme lexeme }
-        ensures { (first : Bool) (told : Telling) → lexeme_of first lexeme.entry ≡ Some told → IfOk result (TakesOrStays (TakesToken (course_of self.old) told) (course_of self.old) (course_of self.new)) }
+        ensures { ForTold lexeme.entry (λ told. IfOk result (TakesOrStays (TakesToken (course_of self.old) told) (course_of self.old) (course_of self.new))) }
     {
         match lexeme {
             Lexeme::MoveText(text) => self.take_move(text),
@@ -170,7 +168,7 @@ impl Course {
 
     /// Takes a token, or tells why it is at fault.
     fn take(&mut self, lexeme: Lexeme<'_>) -> Result<Option<Cause>, AllocError>
-        ensures { (first : Bool) (told : Telling) → lexeme_of first lexeme.entry ≡ Some told → IfOk result (TakesOrStays (TakesToken (course_of self.old) told) (course_of self.old) (course_of self.new)) }
+        ensures { ForTold lexeme.entry (λ told. IfOk result (TakesOrStays (TakesToken (course_of self.old) told) (course_of self.old) (course_of self.new))) }
     {
         match lexeme {
             Lexeme::Tag(pair) => self.take_tag(pair),
@@ -204,7 +202,7 @@ impl Course {
 
     /// Takes a token, unless the game is at fault already.
     fn take_first(&mut self, line: u64, lexeme: Lexeme<'_>) -> Result<(), AllocError>
-        ensures { (first : Bool) (told : Telling) → lexeme_of first lexeme.entry ≡ Some told → OnOk result (TakesFirst (course_of self.old) line told (course_of self.new)) }
+        ensures { ForTold lexeme.entry (λ told. OnOk result (TakesFirst (course_of self.old) line told (course_of self.new))) }
     {
         if let Some(_) = self.fault {
             return Ok(());
@@ -217,7 +215,7 @@ impl Course {
 
     /// Passes a token.
     fn pass(&mut self, line: u64, lexeme: Lexeme<'_>)
-        ensures { (first : Bool) (told : Telling) → lexeme_of first lexeme.entry ≡ Some told → course_of self.new ≡ passed (course_of self.old) (token line told) }
+        ensures { ForTold lexeme.entry (λ told. course_of self.new ≡ passed (course_of self.old) (token line told)) }
     {
         self.line = Some(self.line.unwrap_or(line));
         self.last = line;
@@ -226,7 +224,7 @@ impl Course {
 
     /// Goes on over a token.
     pub(crate) fn put(&mut self, line: u64, lexeme: Lexeme<'_>) -> Result<(), AllocError>
-        ensures { (first : Bool) (told : Telling) → lexeme_of first lexeme.entry ≡ Some told → OnOk result (PassesToken (course_of self.old) (token line told) (course_of self.new)) }
+        ensures { ForTold lexeme.entry (λ told. OnOk result (PassesToken (course_of self.old) (token line told) (course_of self.new))) }
     {
         self.take_first(line, lexeme)?;
         self.pass(line, lexeme);

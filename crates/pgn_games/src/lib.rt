@@ -16,7 +16,8 @@
 //! `usual`, `reader`; `game`, `fault`; `laws`.
 //!
 //! Definitions, in reading order: `Lines`, `Bytes`, `Tags`, `Lexemes` (`lexed_at`), `Tokens` (`tokens_of`), `Games` (`ReadsGame`,
-//! `SpellsGames`), `Shown`, `Reading` (`tokens_left`), `LineReads` (`ReadsLines`, `FailsToRead`), `Laws`, `Scores` (`SpellsScore`), `ExportFormat` (`written_score`).
+//! `SpellsGames`), `Shown`, `Reading` (`tokens_left`, `TellsNextGame`), `LineReads` (`ReadsLines`, `FailsToRead`, `ReadsLinesFor`), `Laws`, `Scores`
+//! (`SpellsScore`), `ExportFormat` (`written_score`).
 //!
 //! - CLAIM: `PgnReader::new`; `PgnReader::next_game`, clause `game`: where the bytes of an input are known, each call reads the next game of
 //!   their tokens, and leaves those behind it.

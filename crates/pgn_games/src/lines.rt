@@ -2,11 +2,9 @@
 
 ghost use Rattle.std.specs.Prelude.{◌≡◌, ◌≤◌, [], ◌∷◌, IfOk, IsErrOf, MatchBool, vec_len};
 ghost use Rattle.pgn_games.specs.Lines.{is_escaped, text_of_line};
-ghost use Rattle.pgn_games.specs.LineReads.{ReadsFor};
-ghost use Rattle.pgn_games.specs.Reading.{IfKnown};
+ghost use Rattle.pgn_games.specs.LineReads.{ReadsLinesFor};
 ghost use Rattle.pgn_games.specs.Inside.Lines.{OneLine};
-ghost use Rattle.pgn_games.specs.Inside.Steps.{BeginsAs, StandsAtLine, TakesText};
-ghost use Rattle.timeline.specs.Outsides.{AddsSome};
+ghost use Rattle.pgn_games.specs.Inside.Steps.{BeginsAs, StandsAtLine, TakesIn};
 
 use crate::cursor::Cursor;
 use crate::phase::one_more;
@@ -77,12 +75,12 @@ pub(crate) fn take_line<S: System>(
     cursor: &mut Cursor,
 ) -> Result<Taken, ReadFault>
     requires { vec_len cursor.old.line ≤ cursor.old.place }
-    ensures text { IfOk result (λ taken. IfKnown ((S.outside system.now).lines lines.old).left ((S.outside system.now).lines lines.new).left (TakesText cursor.old cursor.new taken)) }
+    ensures text { IfOk result (TakesIn (S.outside system.now) lines.old lines.new cursor.old cursor.new) }
     ensures place { IfOk result (StandsAtLine cursor.new) }
     ensures one { OneLine cursor.new.line.items }
     ensures cause { IsErrOf result ReadFault.Unreadable → ((S.outside system.now).lines lines.old).fails }
     ensures same { ((S.outside system.now).lines lines.new).fails → ((S.outside system.now).lines lines.old).fails }
-    ensures made { AddsSome (S.outside system.now) timeline.old timeline.new (ReadsFor ((S.outside system.now).lines lines.old).left ((S.outside system.now).lines lines.new).left result) }
+    ensures made { ReadsLinesFor (S.outside system.now) lines.old lines.new timeline.old timeline.new result }
 {
     match system.next_line(timeline, lines, &mut cursor.line) {
         Ok(true) => Ok(begin_line(cursor)),

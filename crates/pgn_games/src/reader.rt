@@ -31,11 +31,8 @@ pub struct PgnReader {
 impl PgnReader {
     ghost use Rattle.std.specs.Prelude.{◌≡◌, IfOk, IsErrOf, List, Option, ℕ, option_map};
     ghost use Rattle.pgn_games.specs.Tokens.{tokens_of};
-    ghost use Rattle.pgn_games.specs.Games.{ReadsGame};
-    ghost use Rattle.pgn_games.specs.LineReads.{ReadsFor};
-    ghost use Rattle.pgn_games.specs.Shown.{reading_of};
-    ghost use Rattle.pgn_games.specs.Reading.{IfKnown, tokens_left};
-    ghost use Rattle.timeline.specs.Outsides.{AddsSome};
+    ghost use Rattle.pgn_games.specs.LineReads.{ReadsLinesFor};
+    ghost use Rattle.pgn_games.specs.Reading.{TellsNextGame, tokens_left};
 
     /// A reader of an input of which nothing is read yet.
     pub fn new(alloc: Global) -> PgnReader
@@ -61,10 +58,10 @@ impl PgnReader {
         timeline: &mut S::Timeline,
         lines: &mut S::Lines,
     ) -> Result<Option<Reading>, ReadFault>
-        ensures game { IfOk result (λ told. IfKnown (tokens_left ((S.outside system.now).lines lines.old).left self.old) (tokens_left ((S.outside system.now).lines lines.new).left self.new) (λ tokens behind. ReadsGame tokens (option_map reading_of told) behind)) }
+        ensures game { IfOk result (TellsNextGame (S.outside system.now) lines.old lines.new self.old self.new) }
         ensures cause { IsErrOf result ReadFault.Unreadable → ((S.outside system.now).lines lines.old).fails }
         ensures same { ((S.outside system.now).lines lines.new).fails → ((S.outside system.now).lines lines.old).fails }
-        ensures made { AddsSome (S.outside system.now) timeline.old timeline.new (ReadsFor ((S.outside system.now).lines lines.old).left ((S.outside system.now).lines lines.new).left result) }
+        ensures made { ReadsLinesFor (S.outside system.now) lines.old lines.new timeline.old timeline.new result }
     {
         let mut course = Course::new(self.alloc, &self.usual);
         tell_game(system, timeline, lines, &mut self.cursor, &mut course)?;

@@ -1,14 +1,11 @@
 //! Telling a game from an input.
 
-ghost use Rattle.std.specs.Prelude.{◌≡◌, ◌≤◌, ◌++◌, IfOk, IsErrOf, OnOk, List, ℕ, option_map, vec_len, false};
-ghost use Rattle.pgn_games.specs.Lines.{read_text};
-ghost use Rattle.pgn_games.specs.LineReads.{ReadsFor};
+ghost use Rattle.std.specs.Prelude.{◌≡◌, ◌≤◌, ◌++◌, IfOk, IsErrOf, OnOk, List, ℕ, vec_len};
+ghost use Rattle.pgn_games.specs.LineReads.{ReadsLinesFor};
 ghost use Rattle.pgn_games.specs.Tokens.{Token};
-ghost use Rattle.pgn_games.specs.Reading.{IfKnown, tokens_with};
 ghost use Rattle.pgn_games.specs.Inside.Owned.{course_of};
 ghost use Rattle.pgn_games.specs.Inside.Lines.{OneLine};
-ghost use Rattle.pgn_games.specs.Inside.Steps.{Continues, IsOn, ReadsToEnd, TellsOn, comment_closed, closing_tokens, comment_left, rest_with};
-ghost use Rattle.timeline.specs.Outsides.{AddsSome};
+ghost use Rattle.pgn_games.specs.Inside.Steps.{ClosesIn, Continues, EndsIn, IsOn, PassesIn, TellsOnIn, comment_closed, closing_tokens};
 
 use crate::course::Course;
 use crate::cursor::{Cursor, Left, Next};
@@ -49,11 +46,11 @@ fn close_comment<S: System>(
 ) -> Result<Closing, ReadFault>
     requires past { vec_len cursor.old.line ≤ cursor.old.place }
     requires one { OneLine cursor.old.line.items }
-    ensures closes { IfOk result (λ closing. (from : ℕ) → IfKnown ((S.outside system.now).lines lines.old).left ((S.outside system.now).lines lines.new).left (λ left behind. comment_left from false cursor.old.number (rest_with cursor.old (read_text left)) ≡ closing_tokens from closing ++ tokens_with cursor.new (read_text behind))) }
+    ensures closes { IfOk result (ClosesIn (S.outside system.now) lines.old lines.new cursor.old cursor.new) }
     ensures one { OneLine cursor.new.line.items }
     ensures cause { IsErrOf result ReadFault.Unreadable → ((S.outside system.now).lines lines.old).fails }
     ensures same { ((S.outside system.now).lines lines.new).fails → ((S.outside system.now).lines lines.old).fails }
-    ensures made { AddsSome (S.outside system.now) timeline.old timeline.new (ReadsFor ((S.outside system.now).lines lines.old).left ((S.outside system.now).lines lines.new).left result) }
+    ensures made { ReadsLinesFor (S.outside system.now) lines.old lines.new timeline.old timeline.new result }
 {
     let mut long = false;
     for _ in 0..u64::MAX {
@@ -100,12 +97,12 @@ fn pass_comment<S: System>(
     requires past { vec_len cursor.old.line ≤ cursor.old.place }
     requires one { OneLine cursor.old.line.items }
     requires on { IsOn course.old.phase }
-    ensures told { OnOk result (IfKnown ((S.outside system.now).lines lines.old).left ((S.outside system.now).lines lines.new).left (λ left behind. Continues (course_of course.old) (comment_left cursor.old.number false cursor.old.number (rest_with cursor.old (read_text left))) (course_of course.new) (tokens_with cursor.new (read_text behind)))) }
+    ensures told { OnOk result (PassesIn (S.outside system.now) lines.old lines.new cursor.old cursor.new course.old course.new) }
     ensures on { OnOk result (IsOn course.new.phase) }
     ensures one { OneLine cursor.new.line.items }
     ensures cause { IsErrOf result ReadFault.Unreadable → ((S.outside system.now).lines lines.old).fails }
     ensures same { ((S.outside system.now).lines lines.new).fails → ((S.outside system.now).lines lines.old).fails }
-    ensures made { AddsSome (S.outside system.now) timeline.old timeline.new (ReadsFor ((S.outside system.now).lines lines.old).left ((S.outside system.now).lines lines.new).left result) }
+    ensures made { ReadsLinesFor (S.outside system.now) lines.old lines.new timeline.old timeline.new result }
 {
     let from = cursor.number;
     let closing = close_comment(system, timeline, lines, cursor)?;
@@ -123,12 +120,12 @@ fn tell_next<S: System>(
 ) -> Result<Next, ReadFault>
     requires past { vec_len cursor.old.line ≤ cursor.old.place }
     requires on { IsOn course.old.phase }
-    ensures told { IfOk result (λ next. IfKnown ((S.outside system.now).lines lines.old).left ((S.outside system.now).lines lines.new).left (λ left behind. TellsOn next (course_of course.old) (tokens_with cursor.old (read_text left)) (course_of course.new) (tokens_with cursor.new (read_text behind)))) }
+    ensures told { IfOk result (TellsOnIn (S.outside system.now) lines.old lines.new cursor.old cursor.new course.old course.new) }
     ensures on { IfOk result (λ next. IsOn course.new.phase) }
     ensures one { OneLine cursor.new.line.items }
     ensures cause { IsErrOf result ReadFault.Unreadable → ((S.outside system.now).lines lines.old).fails }
     ensures same { ((S.outside system.now).lines lines.new).fails → ((S.outside system.now).lines lines.old).fails }
-    ensures made { AddsSome (S.outside system.now) timeline.old timeline.new (ReadsFor ((S.outside system.now).lines lines.old).left ((S.outside system.now).lines lines.new).left result) }
+    ensures made { ReadsLinesFor (S.outside system.now) lines.old lines.new timeline.old timeline.new result }
 {
     match take_line(system, timeline, lines, cursor)? {
         Taken::Nothing => Ok(Next::Stops),
@@ -150,12 +147,12 @@ fn tell_on<S: System>(
 ) -> Result<Next, ReadFault>
     requires one { OneLine cursor.old.line.items }
     requires on { IsOn course.old.phase }
-    ensures told { IfOk result (λ next. IfKnown ((S.outside system.now).lines lines.old).left ((S.outside system.now).lines lines.new).left (λ left behind. TellsOn next (course_of course.old) (tokens_with cursor.old (read_text left)) (course_of course.new) (tokens_with cursor.new (read_text behind)))) }
+    ensures told { IfOk result (TellsOnIn (S.outside system.now) lines.old lines.new cursor.old cursor.new course.old course.new) }
     ensures on { IfOk result (λ next. next ≡ Next.GoesOn → IsOn course.new.phase) }
     ensures one { OneLine cursor.new.line.items }
     ensures cause { IsErrOf result ReadFault.Unreadable → ((S.outside system.now).lines lines.old).fails }
     ensures same { ((S.outside system.now).lines lines.new).fails → ((S.outside system.now).lines lines.old).fails }
-    ensures made { AddsSome (S.outside system.now) timeline.old timeline.new (ReadsFor ((S.outside system.now).lines lines.old).left ((S.outside system.now).lines lines.new).left result) }
+    ensures made { ReadsLinesFor (S.outside system.now) lines.old lines.new timeline.old timeline.new result }
 {
     match cursor.tell_line(course)? {
         Left::GameOver => Ok(Next::Stops),
@@ -180,11 +177,11 @@ pub(crate) fn tell_game<S: System>(
 ) -> Result<(), ReadFault>
     requires one { OneLine cursor.old.line.items }
     requires on { IsOn course.old.phase }
-    ensures told { OnOk result (IfKnown ((S.outside system.now).lines lines.old).left ((S.outside system.now).lines lines.new).left (λ left behind. ReadsToEnd (course_of course.old) (tokens_with cursor.old (read_text left)) (course_of course.new) (tokens_with cursor.new (read_text behind)))) }
+    ensures told { OnOk result (EndsIn (S.outside system.now) lines.old lines.new cursor.old cursor.new course.old course.new) }
     ensures one { OneLine cursor.new.line.items }
     ensures cause { IsErrOf result ReadFault.Unreadable → ((S.outside system.now).lines lines.old).fails }
     ensures same { ((S.outside system.now).lines lines.new).fails → ((S.outside system.now).lines lines.old).fails }
-    ensures made { AddsSome (S.outside system.now) timeline.old timeline.new (ReadsFor ((S.outside system.now).lines lines.old).left ((S.outside system.now).lines lines.new).left result) }
+    ensures made { ReadsLinesFor (S.outside system.now) lines.old lines.new timeline.old timeline.new result }
 {
     for _ in 0..u64::MAX {
         match tell_on(system, timeline, lines, cursor, course)? {

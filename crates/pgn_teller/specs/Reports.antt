@@ -1,7 +1,7 @@
 -- The games of an input, reported as they are read: what is read for each, and what is written of it (this project's own).
 use Rattle.std.specs.Prelude.{◌≡◌, ◌⊎◌, ◌++◌, ◌==◌, ◌||◌, not, ℕ, Bool, true, false, List, [], ◌∷◌, length, Option, Some, None, Result, Ok, Err, if◌then◌else◌, option_map}
 use Rattle.std.specs.declared.alloc.AllocError.{AllocError}
-use Rattle.answer_parts.specs.Printing.{Prints, printed}
+use Rattle.answer_parts.specs.Printing.{Performs, Prints, printed}
 use Rattle.json.specs.Json.{object}
 use Rattle.json_lines.specs.Objects.{json_text}
 use Rattle.line_teller.specs.ToldLines.{cut_words, refused_memory}
@@ -13,10 +13,12 @@ use Rattle.pgn_games.specs.LineReads.{FailsToRead, ReadsLines}
 use Rattle.pgn_games.specs.Lines.{one_more}
 use Rattle.pgn_games.specs.Reading.{IfKnown}
 use Rattle.pgn_games.specs.Tokens.{Token, tokens_of}
+use Rattle.system_io.specs.declared.output.WriteFault.{WriteFault}
 use Rattle.system_io.specs.declared.reading.ReadFault.{ReadFault}
 use Rattle.system_io.specs.declared.reading.ReadFault.TheVariants.{Unreadable}
 use Rattle.table_folder.specs.declared.fault.FileRefusal.{FileRefusal}
 use Rattle.timeline.specs.Events.{Event, Flushed, Wrote}
+use Rattle.timeline.specs.Outsides.{AddsSome, Outside}
 use Rattle.timeline.specs.declared.stream.Stream.TheVariants.{Output}
 use Rattle.pgn_teller.specs.declared.finding.Finding.TheVariants.{Agrees, Differs, Uncompared}
 use Rattle.pgn_teller.specs.declared.game_line.Form.{Form}
@@ -181,3 +183,9 @@ pub data ReportsPgn {K : Type 0} (Rules : Ruling K) (t : Terms) (Fails : Type 0)
   WithSums : (sums : Sums) (games ends : List Event) → ReportsGames Rules t Fails first games (Some (Some sums)) → PrintsSums t.form sums ends well → events ≡ games ++ ends → ReportsPgn Rules t Fails first events well
   WithoutSums : ReportsGames Rules t Fails first events (Some None) → well ≡ Some false → ReportsPgn Rules t Fails first events well
   GamesAlone : (is : Option (Option Sums)) → ReportsGames Rules t Fails first events is → well ≡ None → ReportsPgn Rules t Fails first events well
+
+-- From one moment to another the games of lines are reported of which none is read yet, and nothing else happens; where the output failed, a
+-- front of that does. What rules the games is seen by how it rules and by what it knows.
+abbrev pub ReportsPgnLines : {T P F K S L R N : Type 0} → Outside T P F K S L → (R → Ruling N) → (R → N) → GameReporter R → L → T → T → Result Bool WriteFault → Type 0
+ReportsPgnLines o rules known reporter lines t t' result =
+    AddsSome o t t' (Performs (ReportsPgn (rules reporter.ruler) (terms_of reporter) (o.lines lines).fails (begun (o.lines lines).left (known reporter.ruler))) result)

@@ -8,7 +8,7 @@
 //! object), `sums`, `reporting` (the run).
 //!
 //! Definitions, in reading order: `Ratings` (`IsFirstRuled`, `Ruling`, `finding_of`), `GameLines`, `GameObjects`, `Reports` (`IsPgnLine`, `ReadsNext`,
-//! `AreReported`, `StopsAt`, `ReportsGames`, `ReportsPgn`). Its cases stand in `pgn.txt` of `rows`.
+//! `AreReported`, `StopsAt`, `ReportsGames`, `ReportsPgn`, `ReportsPgnLines`). Its cases stand in `pgn.txt` of `rows`.
 //!
 //! - CLAIM: `GameRuler::rule`, clauses `made`, `same`, `still`; `SetRuler`; `ruled_by`: the first verdict of a game, or none, or the refusal of a
 //!   file, as the ruler's relation has it, behind what is read for it; by a set of tables and a delay it is that of `judge_core`, nothing is read,

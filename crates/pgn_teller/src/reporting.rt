@@ -5,9 +5,9 @@ ghost use Rattle.answer_parts.specs.Printing.{OutputFails, Performs};
 ghost use Rattle.move_msg.specs.TextLines.{ended};
 ghost use Rattle.pgn_games.specs.Games.{GameRead};
 ghost use Rattle.pgn_games.specs.Shown.{game_of, reading_of};
-ghost use Rattle.pgn_teller.specs.Inside.Steps.{GoesOut, IsTextOf, MakesText, ReportsNext, ReportsReading, WritesLast, WritesText, stage_of};
+ghost use Rattle.pgn_teller.specs.Inside.Steps.{GoesOut, IsTextOf, MakesIn, Next, ReportsAllIn, ReportsOneIn, WritesLast, WritesText};
 ghost use Rattle.pgn_teller.specs.Ratings.{RulesNoMore};
-ghost use Rattle.pgn_teller.specs.Reports.{PrintsSums, ReportsGames, ReportsPgn, begun, counted_as, differs, is_written, pgn_fault_line, pgn_line, pgn_refused_line, pgn_sums_line, ruled_line, terms_of, unread_line};
+ghost use Rattle.pgn_teller.specs.Reports.{PrintsSums, ReportsPgnLines, counted_as, differs, is_written, pgn_fault_line, pgn_line, pgn_refused_line, pgn_sums_line, ruled_line, terms_of, unread_line};
 ghost use Rattle.timeline.specs.Outsides.{AddsSome};
 
 use crate::finding::Finding;
@@ -322,7 +322,7 @@ fn judged_text<S: System, R: GameRuler<S>>(
     game: &Game,
 ) -> Result<GameText, AllocError>
     requires { R.reads_from reporter.old.ruler system.now }
-    ensures made { AddsSome (S.outside system.now) timeline.old timeline.new (MakesText (R.rules reporter.old.ruler) (R.known reporter.old.ruler) (R.known reporter.new.ruler) (terms_of reporter.old) number (GameRead (game_of game.now)) result) }
+    ensures made { MakesIn (S.outside system.now) R.rules R.known reporter.old reporter.new number (GameRead (game_of game.now)) timeline.old timeline.new result }
     ensures same { terms_of reporter.new ≡ terms_of reporter.old }
     ensures rules { RulesNoMore (R.rules reporter.old.ruler) (R.rules reporter.new.ruler) }
     ensures still { R.reads_from reporter.new.ruler system.now }
@@ -342,7 +342,7 @@ fn text_of_reading<S: System, R: GameRuler<S>>(
     reading: &Reading,
 ) -> Result<GameText, AllocError>
     requires { R.reads_from reporter.old.ruler system.now }
-    ensures made { AddsSome (S.outside system.now) timeline.old timeline.new (MakesText (R.rules reporter.old.ruler) (R.known reporter.old.ruler) (R.known reporter.new.ruler) (terms_of reporter.old) number (reading_of reading.now) result) }
+    ensures made { MakesIn (S.outside system.now) R.rules R.known reporter.old reporter.new number (reading_of reading.now) timeline.old timeline.new result }
     ensures same { terms_of reporter.new ≡ terms_of reporter.old }
     ensures rules { RulesNoMore (R.rules reporter.old.ruler) (R.rules reporter.new.ruler) }
     ensures still { R.reads_from reporter.new.ruler system.now }
@@ -362,7 +362,7 @@ fn report_reading<S: System, R: GameRuler<S>>(
     reading: &Reading,
 ) -> Result<Step, WriteFault>
     requires { R.reads_from reporter.old.ruler system.now }
-    ensures made { AddsSome (S.outside system.now) timeline.old timeline.new (Performs (ReportsReading (R.rules reporter.old.ruler) (R.known reporter.old.ruler) (R.known reporter.new.ruler) (terms_of reporter.old) number (reading_of reading.now)) result) }
+    ensures made { ReportsOneIn (S.outside system.now) R.rules R.known reporter.old reporter.new number (reading_of reading.now) timeline.old timeline.new result }
     ensures cause { OnErr result (OutputFails (S.outside system.now)) }
     ensures same { terms_of reporter.new ≡ terms_of reporter.old }
     ensures rules { RulesNoMore (R.rules reporter.old.ruler) (R.rules reporter.new.ruler) }
@@ -380,18 +380,18 @@ fn report_next<S: System, R: GameRuler<S>>(
     system: &S,
     timeline: &mut S::Timeline,
     lines: &mut S::Lines,
-    reader: &mut PgnReader,
+    at: &mut PgnReader,
     number: u64,
 ) -> Result<Step, WriteFault>
     requires { R.reads_from reporter.old.ruler system.now }
-    ensures made { AddsSome (S.outside system.now) timeline.old timeline.new (Performs (ReportsNext (R.rules reporter.old.ruler) (terms_of reporter.old) ((S.outside system.now).lines lines.old).fails number (stage_of ((S.outside system.now).lines lines.old).left reader.old (R.known reporter.old.ruler)) (stage_of ((S.outside system.now).lines lines.new).left reader.new (R.known reporter.new.ruler))) result) }
+    ensures made { Next (S.outside system.now) R.rules R.known reporter.old reporter.new number lines.old lines.new at.old at.new timeline.old timeline.new result }
     ensures cause { OnErr result (OutputFails (S.outside system.now)) }
     ensures same { terms_of reporter.new ≡ terms_of reporter.old }
     ensures rules { RulesNoMore (R.rules reporter.old.ruler) (R.rules reporter.new.ruler) }
     ensures still { R.reads_from reporter.new.ruler system.now }
     ensures fails { ((S.outside system.now).lines lines.new).fails → ((S.outside system.now).lines lines.old).fails }
 {
-    match reader.next_game(system, timeline, lines) {
+    match at.next_game(system, timeline, lines) {
         Ok(Some(reading)) => report_reading(reporter, system, timeline, number, &reading),
         Ok(None) => Ok(Step::Ended),
         Err(fault) => print_unread(system, timeline, fault, Step::Cut),
@@ -407,7 +407,7 @@ fn report_games<S: System, R: GameRuler<S>>(
     lines: &mut S::Lines,
 ) -> Result<Option<Sums>, WriteFault>
     requires { R.reads_from reporter.old.ruler system.now }
-    ensures made { AddsSome (S.outside system.now) timeline.old timeline.new (Performs (ReportsGames (R.rules reporter.old.ruler) (terms_of reporter.old) ((S.outside system.now).lines lines.old).fails (begun ((S.outside system.now).lines lines.old).left (R.known reporter.old.ruler))) result) }
+    ensures made { ReportsAllIn (S.outside system.now) R.rules R.known reporter.old lines.old timeline.old timeline.new result }
     ensures cause { OnErr result (OutputFails (S.outside system.now)) }
     ensures same { terms_of reporter.new ≡ terms_of reporter.old }
 {
@@ -442,7 +442,7 @@ pub fn report<S: System, R: GameRuler<S>>(
     lines: &mut S::Lines,
 ) -> Result<bool, WriteFault>
     requires { R.reads_from reporter.old.ruler system.now }
-    ensures made { AddsSome (S.outside system.now) timeline.old timeline.new (Performs (ReportsPgn (R.rules reporter.old.ruler) (terms_of reporter.old) ((S.outside system.now).lines lines.old).fails (begun ((S.outside system.now).lines lines.old).left (R.known reporter.old.ruler))) result) }
+    ensures made { ReportsPgnLines (S.outside system.now) R.rules R.known reporter.old lines.old timeline.old timeline.new result }
     ensures cause { OnErr result (OutputFails (S.outside system.now)) }
 {
     match report_games(reporter, system, timeline, lines) {

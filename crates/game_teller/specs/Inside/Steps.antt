@@ -8,20 +8,23 @@ use Rattle.board_core.specs.ComputedMoves.{position_after}
 use Rattle.board_core.specs.declared.verdict.Verdict.{Verdict}
 use Rattle.judge_core.specs.Games.{Rules, verdict_after}
 use Rattle.judge_core.specs.Standings.{IsAt, Reached}
-use Rattle.answer_parts.specs.Printing.{printed}
+use Rattle.answer_parts.specs.Printing.{Performs, printed}
+use Rattle.line_teller.specs.ToldLines.{stops_by}
 use Rattle.move_notation.specs.declared.notation.Notation.{Notation}
 use Rattle.move_notation.specs.Notations.{Spells}
+use Rattle.system_io.specs.declared.output.WriteFault.{WriteFault}
 use Rattle.system_io.specs.declared.reading.ReadFault.{ReadFault}
 use Rattle.system_io.specs.LineReaders.{ReadsLine}
 use Rattle.table_folder.specs.declared.fault.FileRefusal.{FileRefusal}
 use Rattle.timeline.specs.Events.{Event, LineRead}
+use Rattle.timeline.specs.Outsides.{AddsSome, Outside}
 use Rattle.game_teller.specs.declared.lines.Stop.{Stop}
 use Rattle.game_teller.specs.declared.lines.Stop.TheVariants as stop
 use Rattle.game_teller.specs.declared.following.FollowedGame.{FollowedGame}
 use Rattle.game_teller.specs.declared.following.FollowState.{FollowState}
 use Rattle.game_teller.specs.declared.following.Step.{Step}
 use Rattle.game_teller.specs.declared.following.Step.TheVariants as step
-use Rattle.game_teller.specs.Followings.{IsNotBegun, goes_out, stop_by}
+use Rattle.game_teller.specs.Followings.{Follows, IsNotBegun, goes_out, stop_by}
 use Rattle.game_teller.specs.Judges.{JudgeFacts, JudgesOn, StandsBy}
 use Rattle.game_teller.specs.Plies.{ply_words, stop_words}
 
@@ -100,3 +103,24 @@ pub record HasBegun (was now : JudgeFacts) (game : FollowedGame) (at : FollowSta
 abbrev pub Begins : JudgeFacts → JudgeFacts → FollowedGame → Result FollowState Stop → List Event → Type 0
 Begins was now game (Ok at) reading = HasBegun was now game at reading
 Begins was now game (Err why) reading = IsNotBegun game was why reading
+
+-- ---- from one moment to another
+
+module _ {T P F K S L : Type 0} (o : Outside T P F K S L) (was now : JudgeFacts) (old new : FollowState) where
+  -- the move of a line is played, and the ply after it judged
+  abbrev pub PlaysIn : {A : Type 0} → List ℕ → T → T → Result A Stop → Type 0
+  PlaysIn line t t' result = AddsSome o t t' (TurnsByLine was now old line new result)
+
+  -- and the ply is printed, or why there is none
+  abbrev pub PrintsIn : List ℕ → T → T → Result Step WriteFault → Type 0
+  PrintsIn line t t' result = AddsSome o t t' (Performs (TurnsRead was now old line new) result)
+
+  -- the next line is read, and that is done
+  abbrev pub TurnsIn : L → L → T → T → Result Step WriteFault → Type 0
+  TurnsIn lines lines' t t' result =
+      AddsSome o t t' (Performs (TakesTurn was now old new (stops_by (o.lines lines)) (o.lines lines).left (o.lines lines').left) result)
+
+-- a game is followed
+abbrev pub FollowsIn : {T P F K S L : Type 0} → Outside T P F K S L → JudgeFacts → FollowedGame → L → T → T → Result ℕ WriteFault → Type 0
+FollowsIn o judge game lines t t' result =
+    AddsSome o t t' (Performs (Follows game judge (stops_by (o.lines lines)) (o.lines lines).left) result)

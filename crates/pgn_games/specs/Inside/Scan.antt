@@ -1,5 +1,5 @@
 -- What slices of a line stand for. Only private contracts cite these words.
-use Rattle.std.specs.Prelude.{Bool, Option, Some, None}
+use Rattle.std.specs.Prelude.{◌≡◌, Bool, Option, Some, None}
 use Rattle.pgn_games.specs.declared.lexeme.Lexeme.{Lexeme as Read}
 use Rattle.pgn_games.specs.declared.lexeme.Lexeme.TheVariants as read
 use Rattle.pgn_games.specs.declared.tag_pair.TagPair.{TagPair as ReadPair}
@@ -22,6 +22,10 @@ lexeme_of first (read.Told result) = Some (Told result)
 lexeme_of first read.Stray = Some Stray
 lexeme_of first read.Endless = Some Endless
 lexeme_of first read.TooLong = Some TooLong
+
+-- of what a lexeme tells, in the first column or not, this is so
+abbrev pub ForTold : Read → (Telling → Type 0) → Type 0
+ForTold lexeme P = (first : Bool) (told : Telling) → lexeme_of first lexeme ≡ Some told → P told
 
 -- no tag and no fault
 abbrev pub IsPlainLexeme : Read → Type 0

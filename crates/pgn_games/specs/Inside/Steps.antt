@@ -1,5 +1,6 @@
 -- How the code goes on over the text of a game. Only private contracts cite these words.
 use Rattle.std.specs.Prelude.{◌≡◌, ◌≤◌, ◌==◌, ◌||◌, ◌++◌, ℕ, Bool, false, List, [], ◌∷◌, length, drop, Option, Some, None, MatchBool, if◌then◌else◌}
+use Rattle.pgn_games.specs.declared.course.Course.{Course as ReadCourse}
 use Rattle.pgn_games.specs.declared.cursor.Cursor.{Cursor}
 use Rattle.pgn_games.specs.declared.cursor.Next.{Next}
 use Rattle.pgn_games.specs.declared.cursor.Next.TheVariants.{GoesOn, Stops}
@@ -15,7 +16,9 @@ use Rattle.pgn_games.specs.declared.phase.Phase.TheVariants.{Tags, Moves, Over}
 use Rattle.pgn_games.specs.Lexemes.{Endless, TooLong}
 use Rattle.pgn_games.specs.Tokens.{Token, line_after, token, token_if, tokens_from}
 use Rattle.pgn_games.specs.Games.{Course, ReadingTold, ReadsTokens, behind_game, of_game}
-use Rattle.pgn_games.specs.Reading.{tokens_with}
+use Rattle.pgn_games.specs.Reading.{IfKnown, tokens_with}
+use Rattle.pgn_games.specs.Inside.Owned.{course_of}
+use Rattle.timeline.specs.Outsides.{Outside}
 
 -- a text that begins with a line feed, or is empty
 abbrev pub BeginsLine : List ℕ → Type 0
@@ -110,3 +113,30 @@ abbrev pub closing_tokens : ℕ → Closing → List Token
 closing_tokens from Whole = []
 closing_tokens from WithLongLine = token from TooLong ∷ []
 closing_tokens from Never = token from Endless ∷ []
+
+-- ---- what a call does with the lines of an input, where their bytes are known
+
+module _ {T P F K S L : Type 0} (o : Outside T P F K S L) (lines lines' : L) (cursor cursor' : Cursor) where
+  -- the next line is taken
+  abbrev pub TakesIn : Taken → Type 0
+  TakesIn taken = IfKnown (o.lines lines).left (o.lines lines').left (TakesText cursor cursor' taken)
+
+  -- a comment is passed that ends so, on whichever line it began
+  abbrev pub ClosesIn : Closing → Type 0
+  ClosesIn closing =
+      (from : ℕ) → IfKnown (o.lines lines).left (o.lines lines').left (λ left behind. comment_left from false cursor.number (rest_with cursor (read_text left)) ≡ closing_tokens from closing ++ tokens_with cursor' (read_text behind))
+
+  -- the rest of a comment is told
+  abbrev pub PassesIn : ReadCourse → ReadCourse → Type 0
+  PassesIn course course' =
+      IfKnown (o.lines lines).left (o.lines lines').left (λ left behind. Continues (course_of course) (comment_left cursor.number false cursor.number (rest_with cursor (read_text left))) (course_of course') (tokens_with cursor' (read_text behind)))
+
+  -- a game goes on, or is told to its end
+  abbrev pub TellsOnIn : ReadCourse → ReadCourse → Next → Type 0
+  TellsOnIn course course' next =
+      IfKnown (o.lines lines).left (o.lines lines').left (λ left behind. TellsOn next (course_of course) (tokens_with cursor (read_text left)) (course_of course') (tokens_with cursor' (read_text behind)))
+
+  -- a game is told to its end
+  abbrev pub EndsIn : ReadCourse → ReadCourse → Type 0
+  EndsIn course course' =
+      IfKnown (o.lines lines).left (o.lines lines').left (λ left behind. ReadsToEnd (course_of course) (tokens_with cursor (read_text left)) (course_of course') (tokens_with cursor' (read_text behind)))

@@ -27,7 +27,7 @@ loop-preserved g c =
     let fails = (o.lines c.args.lines.now).fails in
     let first = begun (o.lines c.args.lines.now).left (g.R.GameRuler.known c.args.reporter.now.ruler) in
     let mid = stage_of (o.lines c.loop.lines).left c.loop.reader (g.R.GameRuler.known c.loop.reporter.ruler) in
-    let at = stage_of (o.lines c.report_next.new.lines).left c.report_next.new.reader (g.R.GameRuler.known c.report_next.new.reporter.ruler) in
+    let at = stage_of (o.lines c.report_next.new.lines).left c.report_next.new.at (g.R.GameRuler.known c.report_next.new.reporter.ruler) in
     let made = rw c.in-Ok-Reported.field-0-is at c.in-Ok-Reported.ensures.made in
     let next = next_by o Rules (g.R.GameRuler.rules c.loop.reporter.ruler) (terms_of c.loop.reporter) t (o.lines c.loop.lines).fails fails c.one_more-number.result mid at _ _ (Ok (step.Reported c.in-Ok-Reported.mark)) c.loop.invariant.rules c.loop.invariant.same c.loop.invariant.fails made in
     record {
@@ -46,7 +46,7 @@ returns-in-Ok-Ended-clause-made g c =
     let fails = (o.lines c.args.lines.now).fails in
     let first = begun (o.lines c.args.lines.now).left (g.R.GameRuler.known c.args.reporter.now.ruler) in
     let mid = stage_of (o.lines c.loop.lines).left c.loop.reader (g.R.GameRuler.known c.loop.reporter.ruler) in
-    let at = stage_of (o.lines c.report_next.new.lines).left c.report_next.new.reader (g.R.GameRuler.known c.report_next.new.reporter.ruler) in
+    let at = stage_of (o.lines c.report_next.new.lines).left c.report_next.new.at (g.R.GameRuler.known c.report_next.new.reporter.ruler) in
     let made = rw c.in-Ok-Ended.field-0-is at c.in-Ok-Ended.ensures.made in
     let next = next_by o Rules (g.R.GameRuler.rules c.loop.reporter.ruler) (terms_of c.loop.reporter) t (o.lines c.loop.lines).fails fails c.one_more-number.result mid at _ _ (Ok step.Ended) c.loop.invariant.rules c.loop.invariant.same c.loop.invariant.fails made in
     all_reported o Rules t fails first c.loop.sums c.one_more-number.result mid at c.one_more-number.ensures _ _ _ c.loop.invariant.made next
@@ -62,7 +62,7 @@ returns-in-Ok-Cut-clause-made g c =
     let fails = (o.lines c.args.lines.now).fails in
     let first = begun (o.lines c.args.lines.now).left (g.R.GameRuler.known c.args.reporter.now.ruler) in
     let mid = stage_of (o.lines c.loop.lines).left c.loop.reader (g.R.GameRuler.known c.loop.reporter.ruler) in
-    let at = stage_of (o.lines c.report_next.new.lines).left c.report_next.new.reader (g.R.GameRuler.known c.report_next.new.reporter.ruler) in
+    let at = stage_of (o.lines c.report_next.new.lines).left c.report_next.new.at (g.R.GameRuler.known c.report_next.new.reporter.ruler) in
     let made = rw c.in-Ok-Cut.field-0-is at c.in-Ok-Cut.ensures.made in
     let next = next_by o Rules (g.R.GameRuler.rules c.loop.reporter.ruler) (terms_of c.loop.reporter) t (o.lines c.loop.lines).fails fails c.one_more-number.result mid at _ _ (Ok step.Cut) c.loop.invariant.rules c.loop.invariant.same c.loop.invariant.fails made in
     some_reported o Rules t fails first c.loop.sums c.one_more-number.result mid at c.one_more-number.ensures _ _ _ c.loop.invariant.made next
@@ -78,7 +78,7 @@ returns-in-Err-clause-made g c =
     let fails = (o.lines c.args.lines.now).fails in
     let first = begun (o.lines c.args.lines.now).left (g.R.GameRuler.known c.args.reporter.now.ruler) in
     let mid = stage_of (o.lines c.loop.lines).left c.loop.reader (g.R.GameRuler.known c.loop.reporter.ruler) in
-    let at = stage_of (o.lines c.report_next.new.lines).left c.report_next.new.reader (g.R.GameRuler.known c.report_next.new.reporter.ruler) in
+    let at = stage_of (o.lines c.report_next.new.lines).left c.report_next.new.at (g.R.GameRuler.known c.report_next.new.reporter.ruler) in
     let next = next_by o Rules (g.R.GameRuler.rules c.loop.reporter.ruler) (terms_of c.loop.reporter) t (o.lines c.loop.lines).fails fails c.one_more-number.result mid at _ _ (Err c.in-Err.fault) c.loop.invariant.rules c.loop.invariant.same c.loop.invariant.fails c.in-Err.ensures.made in
     reports_lost o Rules t fails first c.loop.sums c.one_more-number.result mid at c.one_more-number.ensures _ _ _ c.in-Err.fault c.in-Err.fault c.loop.invariant.made next
 
