@@ -4,7 +4,6 @@ ghost use Rattle.std.specs.Prelude.{◌≡◌, [], string_bytes, IfOk, IsOk, OnE
 ghost use Rattle.std.specs.NonZero.{non_zero_usize_get};
 ghost use Rattle.answer_parts.specs.Printing.{OutputFails};
 ghost use Rattle.arbiter_server.specs.Games.{common_with};
-ghost use Rattle.command_line.specs.Commands.Host.{named};
 ghost use Rattle.game_server.specs.Printing.{KnowsLines, OfGames, form_in};
 ghost use Rattle.game_server.specs.Seats.{AreSeats};
 ghost use Rattle.host_commands.specs.Hosts.{Hosts, HostsBy, common_for, tables_line, together_of};
@@ -12,7 +11,6 @@ ghost use Rattle.host_commands.specs.Inside.HostParts.{AnswersIn, BindsIn, GoesO
 ghost use Rattle.host_commands.specs.Notes.{MayNote};
 ghost use Rattle.host_commands.specs.Outliving.{PerformsOutliving};
 ghost use Rattle.judge_core.specs.Tables.{Holding};
-ghost use Rattle.task_files.specs.Sources.{named_by};
 ghost use Rattle.timeline.specs.Outsides.{AddsSome};
 
 use crate::binding::bind;
@@ -31,7 +29,7 @@ use judge_core::Set;
 use std::alloc::{AllocError, Global};
 use std::num::NonZeroUsize;
 use system_io::WriteFault;
-use task_files::{InputPaths, Inputs, read_inputs};
+use task_files::{Inputs, read_inputs};
 use timeline::System;
 
 /// What games are hosted from: the words, and of how many files the tables were read.
@@ -322,19 +320,6 @@ fn host_by<S: System>(
     lock_and_serve(alloc, &plan, common, system, timeline)
 }
 
-/// What is read for it.
-fn places_of<'t>(task: &HostGames<'t>) -> InputPaths<'t>
-    ensures { named_by result ≡ named task.now }
-{
-    InputPaths {
-        folder: Some(task.tables),
-        manifest: task.manifest,
-        reads_input: false,
-        kept: None,
-        other_kept: None,
-    }
-}
-
 /// Answers the datagrams of any number of games as the words say, each by the arbiter of its game, and returns the status.
 ///
 /// The files of the tables are read first. What is refused is written in one line, in this order: the tables, the folder of games, a store
@@ -352,7 +337,7 @@ pub fn host_games<S: System>(
     ensures made { AddsSome (S.outside system.now) timeline.old timeline.new (PerformsOutliving task.now (Hosts (S.outside system.now) task.now) result) }
     ensures cause { OnErr result (OutputFails (S.outside system.now)) }
 {
-    let places = places_of(task);
+    let places = task.places();
     match read_inputs(alloc, system, timeline, &places) {
         Ok(sources) => host_by(alloc, task, &sources, system, timeline),
         Err(fault) => print_unread(system, timeline, fault, 1),

@@ -3,11 +3,9 @@
 ghost use Rattle.std.specs.Prelude.{◌≡◌, OnErr};
 ghost use Rattle.answer_parts.specs.Lines.{refusal_words};
 ghost use Rattle.answer_parts.specs.Printing.{OutputFails, Performs};
-ghost use Rattle.command_line.specs.Commands.Listen.{named};
 ghost use Rattle.game_server.specs.Seats.{AreSeats};
 ghost use Rattle.host_commands.specs.Inside.Parts.{AsksIfIn, BindsIn, LocksIn, OpensAndAnswersIn, RunsIn, StartsIn, TellsIn, served_one};
 ghost use Rattle.host_commands.specs.Listens.{Listens, ListensBy, ListensFrom, game_of, served_of, unopened_refusal};
-ghost use Rattle.task_files.specs.Sources.{named_by};
 ghost use Rattle.timeline.specs.Outsides.{AddsSome, HeardNothing};
 
 use crate::binding::bind;
@@ -28,7 +26,7 @@ use move_msg::Stamp;
 use std::alloc::Global;
 use std::num::NonZeroUsize;
 use system_io::WriteFault;
-use task_files::{InputPaths, Inputs, read_inputs};
+use task_files::{Inputs, read_inputs};
 use timeline::System;
 
 /// What a server of one game is made of.
@@ -271,19 +269,6 @@ fn listen_by<S: System>(
     }
 }
 
-/// What is read for it.
-fn places_of<'t>(task: &Listen<'t>) -> InputPaths<'t>
-    ensures { named_by result ≡ named task.now }
-{
-    InputPaths {
-        folder: Some(task.tables),
-        manifest: None,
-        reads_input: false,
-        kept: None,
-        other_kept: None,
-    }
-}
-
 /// Opens an arbiter as its words say, answers datagrams, and returns the status.
 ///
 /// The files of its tables are read first. Where that is wanted, the first line is `ready` and the address at which datagrams come, when
@@ -300,7 +285,7 @@ pub fn listen<S: System>(
     ensures made { AddsSome (S.outside system.now) timeline.old timeline.new (Performs (Listens (S.outside system.now) task.now) result) }
     ensures cause { OnErr result (OutputFails (S.outside system.now)) }
 {
-    let places = places_of(task);
+    let places = task.places();
     match read_inputs(alloc, system, timeline, &places) {
         Ok(sources) => listen_by(alloc, task, &sources, system, timeline),
         Err(fault) => print_unread(system, timeline, fault, 1),

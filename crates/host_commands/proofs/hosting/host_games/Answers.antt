@@ -15,7 +15,7 @@ pub returns-in-Ok-clause-made : goal.returns-in-Ok-clause-made
 returns-in-Ok-clause-made g c =
     let o = g.S.System.outside c.args.system.now in
     let h = c.args.task.now in
-    let read = subst (λ (n : Named). AddsSome o c.args.timeline.now c.read_inputs.new.timeline (ReadsGiven o n (Ok c.in-Ok.sources))) c.places_of-places.ensures c.in-Ok.ensures in
+    let read = subst (λ (n : Named). AddsSome o c.args.timeline.now c.read_inputs.new.timeline (ReadsGiven o n (Ok c.in-Ok.sources))) c.places-places.ensures c.in-Ok.ensures in
     goes_on o h _ _ _ (ReadsNamed o (named h)) (HostsBy o h) c.in-Ok.sources c.host_by.result (reading_quiet o (named h)) (read.0, read.1, (Ok c.in-Ok.sources, read.2, refl)) c.host_by.ensures.made
 
 pub returns-in-Err-clause-made : goal.returns-in-Err-clause-made
@@ -23,5 +23,5 @@ returns-in-Err-clause-made g c =
     let o = g.S.System.outside c.args.system.now in
     let h = c.args.task.now in
     let fault = c.in-Err.fault in
-    let read = subst (λ (n : Named). AddsSome o c.args.timeline.now c.read_inputs.new.timeline (ReadsGiven o n (Err fault))) c.places_of-places.ensures c.in-Err.ensures in
+    let read = subst (λ (n : Named). AddsSome o c.args.timeline.now c.read_inputs.new.timeline (ReadsGiven o n (Err fault))) c.places-places.ensures c.in-Err.ensures in
     is_refused o h _ _ _ (ReadsNamed o (named h)) (HostsBy o h) (cut_words fault) c.print_unread.result (reading_quiet o (named h)) (read.0, read.1, (Err fault, read.2, refl)) c.print_unread.ensures.made

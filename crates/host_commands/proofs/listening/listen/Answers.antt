@@ -14,7 +14,7 @@ pub returns-in-Ok-clause-made : goal.returns-in-Ok-clause-made
 returns-in-Ok-clause-made g c =
     let o = g.S.System.outside c.args.system.now in
     let l = c.args.task.now in
-    let read = subst (λ (n : Named). AddsSome o c.args.timeline.now c.read_inputs.new.timeline (ReadsGiven o n (Ok c.in-Ok.sources))) c.places_of-places.ensures c.in-Ok.ensures in
+    let read = subst (λ (n : Named). AddsSome o c.args.timeline.now c.read_inputs.new.timeline (ReadsGiven o n (Ok c.in-Ok.sources))) c.places-places.ensures c.in-Ok.ensures in
     goes_on o _ _ _ (ReadsNamed o (named l)) (ListensBy o l) c.in-Ok.sources c.listen_by.result (read.0, read.1, (Ok c.in-Ok.sources, read.2, refl)) c.listen_by.ensures.made
 
 pub returns-in-Err-clause-made : goal.returns-in-Err-clause-made
@@ -22,5 +22,5 @@ returns-in-Err-clause-made g c =
     let o = g.S.System.outside c.args.system.now in
     let l = c.args.task.now in
     let fault = c.in-Err.fault in
-    let read = subst (λ (n : Named). AddsSome o c.args.timeline.now c.read_inputs.new.timeline (ReadsGiven o n (Err fault))) c.places_of-places.ensures c.in-Err.ensures in
+    let read = subst (λ (n : Named). AddsSome o c.args.timeline.now c.read_inputs.new.timeline (ReadsGiven o n (Err fault))) c.places-places.ensures c.in-Err.ensures in
     is_refused o _ _ _ (ReadsNamed o (named l)) (ListensBy o l) (cut_words fault) c.print_unread.result (read.0, read.1, (Err fault, read.2, refl)) c.print_unread.ensures.made
