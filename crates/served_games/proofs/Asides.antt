@@ -24,7 +24,7 @@ use Rattle.game_folder.specs.Drafts.{DraftView}
 use Rattle.game_folder.specs.Holdings.{GamesFacts}
 use Rattle.game_folder.specs.Places.{InFile, InStore, KeptAt}
 use Rattle.game_server.specs.Datagrams.{IsNotOf}
-use Rattle.game_server.specs.Fates.{Fate, GoesTo, HasGame, IsAnswered, IsFound, IsOther, IsUnopened, IsUnread, KeepsAnswer, KeptIfAny, NotFound, OpensFor, OpensNone, OpensSeat, SeatOpened, SeatRefused, SeatUnkept, TakesAndOpens, TakesNone, TakesOne, fate_leaves, found_draft}
+use Rattle.game_server.specs.Fates.{Fate, GoesTo, HasGame, IsAnswered, IsFound, IsOther, IsUnopened, IsUnread, KeepsAnswer, KeptIfAny, NotFound, OpensFor, OpensNone, OpensSeat, SeatNotHeld, SeatOpened, SeatRefused, SeatUnkept, TakesAndOpens, TakesNone, TakesOne, fate_leaves, found_draft}
 use Rattle.game_server.specs.Printing.{LineForm, TextEnd, WasCut, WasStuck, WentOut, WritesLines, lines_out, text_events, text_out, written_text}
 use Rattle.game_server.specs.Rounds.{Heard, IsFull, NoMore, ReceiveFails, RoundEnd, end_events, reply_sent, round_sent}
 use Rattle.game_server.specs.Sending.{Address, address, message_sent, sent}
@@ -142,6 +142,7 @@ module _ {G : Type 0} (facts : GamesFacts G) (at_once : KeepsAtOnce facts) (t : 
     seat_stays : (past : List Event) (game : GameConfig) (draft : DraftView) (events : List Event) (told : Result (Moment DraftView) OpenGameError) → OpensSeat facts place other (setup_of t game.name.items game.start game.delay) draft events told → StaysFound at stamp past events
     seat_stays past game draft events told (SeatRefused after fault h none is) = stays_none at stamp past events none
     seat_stays past game draft events told (SeatUnkept after v bytes h put keeps is) = at_once.keeps_apart place stamp other bytes mine its apart false events past keeps
+    seat_stays past game draft events told (SeatNotHeld after v h kept is) = if_any_stays past after.to_put events kept
     seat_stays past game draft events told (SeatOpened after v h kept is) = if_any_stays past after.to_put events kept
 
     taking_stays : (past : List Event) (game : GameConfig) (events : List Event) (told : Result (Moment DraftView) OpenGameError) → TakesAndOpens facts t g other game events told → StaysFound at stamp past events

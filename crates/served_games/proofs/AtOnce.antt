@@ -125,7 +125,7 @@ folder_games_keep_at_once = record {
       file_takes_apart (kept_path folder stamp) stamp (kept_path folder other) (folder_apart folder stamp other mine its apart) result events past (subst (λ (x : List ℕ). TakesFromFile (kept_path x other) result events) there takes);
   keeps_apart = λ folder stamp other bytes mine its apart is_done events past are.
       file_keeps_apart (kept_path folder stamp) stamp (kept_path folder other) (folder_apart folder stamp other mine its apart) bytes is_done events past are;
-  commits = λ folder g there stamp is_done events past done. stays_none (InFile (kept_path folder stamp)) stamp past events done.1;
+  commits = λ folder g there stamp told events past done. stays_none (InFile (kept_path folder stamp)) stamp past events done.1;
 }
 
 -- ---- one game
@@ -142,5 +142,5 @@ one_game_keeps_at_once = record {
   fails = λ at stamp bytes events past are. file_fails at.path stamp bytes events past are;
   takes_apart = λ at g there stamp other mine its apart. absurd (stamps_apart stamp other apart (its.finds.0.0 ∙ sym mine.finds.0.0));
   keeps_apart = λ at stamp other bytes mine its apart. absurd (stamps_apart stamp other apart (its.finds.0.0 ∙ sym mine.finds.0.0));
-  commits = λ at g there stamp is_done events past done. stays_none (InFile at.path) stamp past events done.1;
+  commits = λ at g there stamp told events past done. stays_none (InFile at.path) stamp past events done.1;
 }

@@ -18,7 +18,7 @@ use Rattle.game_server.specs.declared.server.Server.{Server}
 use Rattle.served_games.specs.Durable.{AreServedRuns, AreToldAt, IsDurableAfter, IsFoundIn, IsServedRun, IsToldAt, KeepsAtOnce, LastsBehind, MayFind, RunsLast, ServedRun, StaysFound, behind, events_of, events_of_all, heard_in_run, made_of, work_of}
 use Rattle.served_games.specs.Lasting.{Between, IsOfOne, IsToldStill, PlaceRun, RanInTurn, RanOver, left_by}
 use Rattle.served_games.specs.PlaceKeepers.{Follows, PlaceKeeper, found_keeper, place_keepers}
-use Rattle.served_games.specs.ServedGames.{AreOverLeft, IsAt, LostAreClosed, OpenedGame, acts_in, game_at}
+use Rattle.served_games.specs.ServedGames.{AreOverLeft, IsAt, OpenedGame, acts_in, game_at}
 use Rattle.served_games.proofs.Finding.{behind_join, durable_first, durable_rest, found_stays}
 use Rattle.served_games.proofs.Following.{opened_found}
 use Rattle.served_games.proofs.Going.{Acts, Life, opened_goes}
@@ -60,7 +60,7 @@ left_found at stamp past before (Open now) h found m = inl (h found m)
 pub closed_at : {G F : Type 0} (server : Server G F) (k : Option (Seat F)) → k ≡ None → IsAt (option_map (seat_moment server.shared.tables) k) Fresh
 closed_at {F = F} server k none = subst (λ (x : Option (Seat F)). IsAt (option_map (seat_moment server.shared.tables) x) Fresh) (sym none) tt
 
-module _ {T P F K S L G : Type 0} (o : Outside T P F K S L) (facts : GamesFacts G) (closes : LostAreClosed o facts) (at_once : KeepsAtOnce facts) (place : facts.Place) (stamp : List ℕ) (setup : SetupView) (mine : IsToldAt facts place stamp) where
+module _ {T P F K S L G : Type 0} (o : Outside T P F K S L) (facts : GamesFacts G) (at_once : KeepsAtOnce facts) (place : facts.Place) (stamp : List ℕ) (setup : SetupView) (mine : IsToldAt facts place stamp) where
   abbrev at : KeptAt
   at = facts.places place stamp
 
@@ -102,7 +102,7 @@ module _ {T P F K S L G : Type 0} (o : Outside T P F K S L) (facts : GamesFacts 
       f : DoneAt before (behind (behind past r.first) (work_of r)) r place
       f =
           subst (DoneAt before (behind (behind past r.first) (work_of r)) r) is.there
-          (let q = opened_found o facts closes at_once stamp before is.most is.form is.texts r.to r.old r.begun r.mid r.new r.unasked r.asked r.turns r.heard (behind past r.first) is.opens is.in_turns is.hears told (closed_at r.old (open_at r.old stamp) (is.closed stamp))
+          (let q = opened_found o facts at_once stamp before is.form is.texts r.to r.old r.begun r.mid r.new r.unasked r.asked r.turns r.heard (behind past r.first) is.opens is.in_turns is.hears told (closed_at r.old (open_at r.old stamp) (is.closed stamp))
           (subst (λ (x : facts.Place). StaysFound (facts.places x stamp) stamp (behind (behind past r.first) (flat_map made_of r.unasked)) r.asked) (sym is.there) is.asked_stays)
           (subst (λ (x : facts.Place). IsDurableAfter (facts.places x stamp) stamp (behind past r.first) (work_of r)) (sym is.there) durable_work)
           (subst (λ (x : facts.Place). IsFoundIn (facts.places x stamp) stamp (behind past r.first) before Fresh) (sym is.there) found_first) in
@@ -147,7 +147,7 @@ module _ {T P F K S L G : Type 0} (o : Outside T P F K S L) (facts : GamesFacts 
         lasts = λ later h. (record { game = d.game; over = d.over; lasts = λ k may. (h k may).0 }, m.lasts later (λ k may. (h k may).1));
       }
 
-pub runs_last : {T P F K S L G : Type 0} (o : Outside T P F K S L) (facts : GamesFacts G) → LostAreClosed o facts → KeepsAtOnce facts → RunsLast o facts
-runs_last o facts closes at_once place stamp setup past first runs mine known are durable =
-    let d = runs_done o facts closes at_once place stamp setup mine first past runs are durable known in
+pub runs_last : {T P F K S L G : Type 0} (o : Outside T P F K S L) (facts : GamesFacts G) → KeepsAtOnce facts → RunsLast o facts
+runs_last o facts at_once place stamp setup past first runs mine known are durable =
+    let d = runs_done o facts at_once place stamp setup mine first past runs are durable known in
     d.lasts (behind past (events_of_all runs)) (λ k may. each_lasts facts place stamp setup first d.last (found_keeper k) d.places d.ran (d.found k may))

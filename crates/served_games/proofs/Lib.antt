@@ -9,7 +9,6 @@ pub mod Finding
 pub mod Asides
 pub mod Following
 pub mod Enduring
-pub mod Lost
 pub mod Stamping
 pub mod AtOnce
 pub mod OneGames

@@ -18,7 +18,6 @@ use Rattle.served_games.specs.PlaceKeepers.{found_keeper}
 use Rattle.served_games.specs.Unasked.{Begins, WithNone, WithOne}
 use Rattle.served_games.proofs.AtOnce.{if_same, one_game_keeps_at_once}
 use Rattle.served_games.proofs.Enduring.{runs_last}
-use Rattle.served_games.proofs.Lost.{lost_are_closed}
 
 pub begun_hears : {T P F K S L G : Type 0} (o : Outside T P F K S L) (facts : GamesFacts G) (first old : Server G F) (unasked : List Heard) → Begins o facts first unasked old → HearsAll o facts first unasked old
 unfolding HearsAll
@@ -38,7 +37,6 @@ module _ {T P F K S L : Type 0} (o : Outside T P F K S L) (t : CommonView) (game
     there = ap (λ (g : OneGameView). g.at) h.new.games_are;
     closed = h.new.none;
     one = λ other events finds. same_setup (common r.old) other h.new.common_is finds.0.1;
-    most = h.most;
     form = h.form;
     texts = h.texts;
     opens = begun_hears o one_game_facts r.old r.begun r.unasked h.begins;
@@ -55,7 +53,7 @@ module _ {T P F K S L : Type 0} (o : Outside T P F K S L) (t : CommonView) (game
 
 pub one_game_keeps_what_it_told : {T P F K S L : Type 0} (o : Outside T P F K S L) → OneGameKeepsWhatItTold o
 one_game_keeps_what_it_told o t game stamp path there runs is are durable =
-    runs_last o one_game_facts (lost_are_closed o one_game_facts) one_game_keeps_at_once (one_place game stamp path) stamp (setup_of t game.name.items game.start game.delay) (Found path (Ok there) ∷ []) (found_keeper there) runs
+    runs_last o one_game_facts one_game_keeps_at_once (one_place game stamp path) stamp (setup_of t game.name.items game.start game.delay) (Found path (Ok there) ∷ []) (found_keeper there) runs
     (record { game = game; events = []; finds = ((refl, refl), refl); manifest = t.manifest; is = is })
     (λ found m. inl (if_same path (found ≡ there) (Unit {0}) m))
     (are_served o t game stamp path (Found path (Ok there) ∷ []) runs are)

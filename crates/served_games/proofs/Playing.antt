@@ -1,5 +1,5 @@
 -- What one game does at one datagram.
-use Rattle.std.proofs.Common.{◌≡◌, ◌⊎◌, inl, inr, ◌∙◌, ℕ, Bool, true, false, cond, List, [], ◌∷◌, ◌++◌, Option, Some, None, refl, sym, ap, subst, append-nil, arith}
+use Rattle.std.proofs.Common.{◌≡◌, inl, inr, ◌∙◌, ℕ, Bool, true, false, cond, List, [], ◌∷◌, ◌++◌, Option, Some, None, refl, sym, ap, subst, append-nil, arith}
 use Rattle.std.specs.Prelude.{Result, Ok, Err}
 use Rattle.arbiter_core.specs.Delivers.{Exchange, Moment, ReturnsAnswer, Told, answer_at, answer_of, answer_to_any, exchange, in_game, moment}
 use Rattle.arbiter_core.specs.Answering.{Answer}
@@ -23,9 +23,9 @@ use Rattle.timeline.specs.Events.{Event}
 use Rattle.game_folder.specs.Drafts.{DraftView, draft_facts, settled}
 use Rattle.game_folder.specs.Holdings.{GamesFacts}
 use Rattle.game_server.specs.Datagrams.{IsLeftOpen}
-use Rattle.game_server.specs.Fates.{Answered, AnswersBy, Fate, GoesTo, HasGame, IsAnswered, IsFound, IsOther, IsUnopened, IsUnread, NotFound, OpensFor, OpensNone, OpensSeat, SeatOpened, SeatRefused, SeatUnkept, TakesAndOpens, TakesNone, TakesOne, Unopened, fate_leaves, fate_line, fate_outputs, found_draft, is_unput}
-use Rattle.served_games.specs.PlaceKeepers.{PlaceKeeper, found_keeper, has_failed, place_facts, place_keepers}
-use Rattle.served_games.specs.ServedGames.{GoesOn, IsAt, IsOpenAt, IsOverLeft, Looked, LooksInVain, NothingPut, NotLooked, NotTaken, OpensBy, PutFails, PutsBy, is_lost}
+use Rattle.game_server.specs.Fates.{Answered, AnswersBy, Fate, GoesTo, HasGame, IsAnswered, IsFound, IsOther, IsUnopened, IsUnread, NotFound, OpensFor, OpensNone, OpensSeat, SeatNotHeld, SeatOpened, SeatRefused, SeatUnkept, TakesAndOpens, TakesNone, TakesOne, Unopened, fate_leaves, fate_line, fate_outputs, found_draft, is_unput}
+use Rattle.served_games.specs.PlaceKeepers.{IsNotFound, LacksGame, NotHeld, PlaceKeeper, found_keeper, has_failed, place_facts, place_keepers}
+use Rattle.served_games.specs.ServedGames.{GoesOn, IsAt, IsOpenAt, IsOverLeft, Looked, LooksInVain, NothingPut, NotLooked, NotTaken, OpensBy, PutFails, PutsBy}
 use Rattle.served_games.proofs.Carrying.{Carried, carried}
 use Rattle.served_games.proofs.Going.{Acts, Life, on_join, on_nothing}
 use Rattle.served_games.proofs.Opening.{IsOpened, opened, opening_refused, opening_unkept}
@@ -96,31 +96,23 @@ module _ {G : Type 0} (facts : GamesFacts G) (t : CommonView) (g : G) where
       to_life : (b : Bool) → lost ≡ b → life_at e.after ≡ cond b (Shut e.after.keeper) (Open e.after)
       to_life b at = ap (λ (x : Bool). cond x (Shut e.after.keeper) (Open e.after)) (c.down ∙ at)
 
-      module _ (now : Option (Moment DraftView)) (none : lost ≡ true → now ≡ None) (left : lost ≡ false → IsLeftOpen (Some (moment after.arbiter (settled after.keeper))) now) where
-        kept_on : lost ≡ false → IsLeftOpen (Some (moment after.arbiter (settled after.keeper))) now → Next stamp (Open here) (answer_reply after told is_kept ∷ []) events now
-        kept_on at (inl same) = record {
-          acts = Answers stamp e ∷ [];
-          to = Open e.after;
-          on = subst (GoesOn facts place t stamp (Open here) (Answers stamp e ∷ []) (answer_reply after told is_kept ∷ []) events) (to_life false at) one_answer;
-          at = subst (λ (w : Option (Moment DraftView)). IsAt w (Open e.after)) (sym same) (record { same = c.left at; kept = c.none at unkept; runs = c.down ∙ at });
-        }
-        kept_on at (inr gone) = record {
-          acts = Answers stamp e ∷ Closes stamp e.after.keeper ∷ [];
-          to = Shut e.after.keeper;
-          on = subst (λ (l : List Event). GoesOn facts place t stamp (Open here) (Answers stamp e ∷ Closes stamp e.after.keeper ∷ []) (answer_reply after told is_kept ∷ []) l (Shut e.after.keeper)) (append-nil events)
-              (on_join facts place t stamp (Open here) (Open e.after) (Shut e.after.keeper) (Answers stamp e ∷ []) (Closes stamp e.after.keeper ∷ []) (answer_reply after told is_kept ∷ []) [] events []
-              (subst (GoesOn facts place t stamp (Open here) (Answers stamp e ∷ []) (answer_reply after told is_kept ∷ []) events) (to_life false at) one_answer) (closing stamp e.after));
-          at = subst (λ (w : Option (Moment DraftView)). IsAt w (Shut e.after.keeper)) (sym gone) tt;
-        }
+      module _ (now : Option (Moment DraftView)) (own : now ≡ cond lost None (Some (moment after.arbiter (settled after.keeper)))) where
+        own_is : (b : Bool) → lost ≡ b → now ≡ cond b None (Some (moment after.arbiter (settled after.keeper)))
+        own_is b at = own ∙ ap (λ (x : Bool). cond x None (Some (moment after.arbiter (settled after.keeper)))) at
 
         by_lost : (b : Bool) → lost ≡ b → Next stamp (Open here) (answer_reply after told is_kept ∷ []) events now
         by_lost true at = record {
           acts = Answers stamp e ∷ [];
           to = Shut e.after.keeper;
           on = subst (GoesOn facts place t stamp (Open here) (Answers stamp e ∷ []) (answer_reply after told is_kept ∷ []) events) (to_life true at) one_answer;
-          at = subst (λ (w : Option (Moment DraftView)). IsAt w (Shut e.after.keeper)) (sym (none at)) tt;
+          at = subst (λ (w : Option (Moment DraftView)). IsAt w (Shut e.after.keeper)) (sym (own_is true at)) tt;
         }
-        by_lost false at = kept_on at (left at)
+        by_lost false at = record {
+          acts = Answers stamp e ∷ [];
+          to = Open e.after;
+          on = subst (GoesOn facts place t stamp (Open here) (Answers stamp e ∷ []) (answer_reply after told is_kept ∷ []) events) (to_life false at) one_answer;
+          at = subst (λ (w : Option (Moment DraftView)). IsAt w (Open e.after)) (sym (own_is false at)) (record { same = c.left at; kept = c.none at unkept; runs = c.down ∙ at });
+        }
 
         answered_on : Next stamp (Open here) (answer_reply after told is_kept ∷ []) events now
         answered_on = by_lost lost refl
@@ -144,6 +136,7 @@ module _ {G : Type 0} (facts : GamesFacts G) (t : CommonView) (g : G) where
       strange_as : (why : OpenGameError) (tried b : Bool) (events : List Event) → LooksInVain facts place stamp events → opens_game m ≡ b → IsStrange (place_keepers facts place) t.manifest stamp b tried why → Next stamp life (unopened stamp datagram why ∷ []) events None
       strange_as why tried b events vain at s = strange why tried events vain (subst (λ (x : Bool). IsStrange (place_keepers facts place) t.manifest stamp x tried why) (sym (opens_is ∙ at)) s)
 
+    module _ (life : Life) (shut : IsNotOpen life) where
       module _ (game : GameConfig) (looked : List Event) (finds : facts.finds place stamp (Ok game) looked) (game_is : IsGameOf t.manifest stamp game.name.items game.start game.delay) (taken put : List Event) (got : Option (List ℕ)) (takes : facts.takes g stamp (Ok got) taken) where
         abbrev opening_to : PlaceKeeper → Opening PlaceKeeper
         opening_to now = record { setup = setup_of t game.name.items game.start game.delay; before = found_keeper got; now = now }
@@ -174,31 +167,76 @@ module _ {G : Type 0} (facts : GamesFacts G) (t : CommonView) (g : G) where
           at = tt;
         }
 
-        by_seat : (why : OpenGameError) (events : List Event) → events ≡ looked ++ (taken ++ put) → OpensSeat facts place stamp (setup_of t game.name.items game.start game.delay) (found_draft got) put (Err why) → Next stamp life (unopened stamp datagram why ∷ []) events None
-        by_seat why events are (SeatRefused after fault h nothing told) =
+        -- an arbiter is opened over it
+        opens_on : (after : DraftView) (v : View) (events : List Event) → events ≡ looked ++ (taken ++ put) → (x : IsOpened facts place stamp (setup_of t game.name.items game.start game.delay) got after v put) → GoesOn facts place t stamp life (Opens stamp (opening_to x.now) v ∷ []) [] events (Open (moment v x.now))
+        opens_on after v events are x = record {
+          goes = λ left. (Open (moment v x.now), opens_to x.now (Ok v) x.opening left.0, refl);
+          leads = refl;
+          own = (refl, tt);
+          replies_are = refl;
+          makes = (events, [], sym (append-nil events), (opens_by_events x.now events are x.puts, x.none), refl);
+        }
+
+        -- but memory is refused to keep it open, so it is closed at once
+        lacks_it : (why : OpenGameError) → why ≡ why_not.OutOfMemory → (after : DraftView) (v : View) → IsOpened facts place stamp (setup_of t game.name.items game.start game.delay) got after v put → LacksGame facts place stamp why
+        lacks_it why memory after v x = NotHeld (record {
+          memory = memory;
+          common = t;
+          game = game;
+          looked = looked;
+          finds = finds;
+          is = game_is;
+          games = g;
+          there = refl;
+          got = got;
+          taken = taken;
+          takes = takes;
+          now = x.now;
+          arbiter = v;
+          opening = x.opening;
+        })
+
+        not_held : (why : OpenGameError) (events : List Event) → why ≡ why_not.OutOfMemory → opens_game m ≡ true → events ≡ looked ++ (taken ++ put) → (after : DraftView) (v : View) → IsOpened facts place stamp (setup_of t game.name.items game.start game.delay) got after v put → Next stamp life (unopened stamp datagram why ∷ []) events None
+        not_held why events memory opens are after v x =
+            let here = moment v x.now in
+            let s : Next stamp (Shut x.now) (unopened stamp datagram why ∷ []) [] None = strange_as (Shut x.now) tt why false true [] (NotLooked refl) opens (IsRefused (lacks_it why memory after v x)) in
+            let rest : GoesOn facts place t stamp (Open here) (Closes stamp x.now ∷ s.acts) (unopened stamp datagram why ∷ []) [] s.to =
+                on_join facts place t stamp (Open here) (Shut x.now) s.to (Closes stamp x.now ∷ []) s.acts [] (unopened stamp datagram why ∷ []) [] [] (closing stamp here) s.on in
+            record {
+              acts = Opens stamp (opening_to x.now) v ∷ Closes stamp x.now ∷ s.acts;
+              to = s.to;
+              on = subst (λ (l : List Event). GoesOn facts place t stamp life (Opens stamp (opening_to x.now) v ∷ Closes stamp x.now ∷ s.acts) (unopened stamp datagram why ∷ []) l s.to) (append-nil events)
+                  (on_join facts place t stamp life (Open here) s.to (Opens stamp (opening_to x.now) v ∷ []) (Closes stamp x.now ∷ s.acts) [] (unopened stamp datagram why ∷ []) events [] (opens_on after v events are x) rest);
+              at = s.at;
+            }
+
+        by_seat : (why : OpenGameError) (events : List Event) → opens_game m ≡ true → events ≡ looked ++ (taken ++ put) → OpensSeat facts place stamp (setup_of t game.name.items game.start game.delay) (found_draft got) put (Err why) → Next stamp life (unopened stamp datagram why ∷ []) events None
+        by_seat why events opens are (SeatRefused after fault h nothing told) =
             refuses (found_keeper got) fault why events (same_why why (unopened_by fault) told) are (opening_refused (setup_of t game.name.items game.start game.delay) got after fault h) (NothingPut refl nothing)
           where
             same_why : (a b : OpenGameError) → ◌≡◌ {A = Result (Moment DraftView) OpenGameError} (Err a) (Err b) → a ≡ b
             same_why a b s = cc
-        by_seat why events are (SeatUnkept after v bytes h to_put keeps told) =
+        by_seat why events opens are (SeatUnkept after v bytes h to_put keeps told) =
             refuses (has_failed (found_keeper got) bytes) KeeperFailed why events (let f : ◌≡◌ {A = Result (Moment DraftView) OpenGameError} (Err why) (Err why_not.Keeper) = told in cc) are (opening_unkept (setup_of t game.name.items game.start game.delay) got after v bytes h to_put) (PutFails bytes keeps refl)
-        by_seat why events are (SeatOpened after v h kept told) = absurd (let f : ◌≡◌ {A = Result (Moment DraftView) OpenGameError} (Err why) (Ok (moment v (settled after))) = told in cc)
+        by_seat why events opens are (SeatNotHeld after v h kept told) =
+            not_held why events (let f : ◌≡◌ {A = Result (Moment DraftView) OpenGameError} (Err why) (Err why_not.OutOfMemory) = told in cc) opens are after v (opened facts place stamp (setup_of t game.name.items game.start game.delay) got after v put h kept)
+        by_seat why events opens are (SeatOpened after v h kept told) = absurd (let f : ◌≡◌ {A = Result (Moment DraftView) OpenGameError} (Err why) (Ok (moment v (settled after))) = told in cc)
 
       by_taking : (game : GameConfig) (looked rest events : List Event) (why : OpenGameError) → opens_game m ≡ true → facts.finds place stamp (Ok game) looked → IsGameOf t.manifest stamp game.name.items game.start game.delay → events ≡ looked ++ rest → TakesAndOpens facts t g stamp game rest (Err why) → Next stamp life (unopened stamp datagram why ∷ []) events None
       by_taking game looked rest events why opens finds game_is are (TakesNone why' takes told) =
           let same : why ≡ why' = let f : ◌≡◌ {A = Result (Moment DraftView) OpenGameError} (Err why) (Err why') = told in cc in
-          strange_as why true true events (NotTaken game looked finds g refl why' rest takes are) opens
+          strange_as life shut why true true events (NotTaken game looked finds g refl why' rest takes are) opens
           (record { games = g; there = refl; events = rest; takes = subst (λ (w : OpenGameError). facts.takes g stamp (Err w) rest) (sym same) takes }, record { game = game; told = (looked, finds); is = game_is })
       by_taking game looked rest events why opens finds game_is are (TakesOne taken put got takes seat is_rest) =
-          by_seat game looked finds game_is taken put got takes why events (are ∙ ap (λ (l : List Event). looked ++ l) is_rest) seat
+          by_seat game looked finds game_is taken put got takes why events opens (are ∙ ap (λ (l : List Event). looked ++ l) is_rest) seat
 
       pub unopened_on : (events : List Event) (why : OpenGameError) → OpensFor facts t g m events (Err why) → Next stamp life (unopened stamp datagram why ∷ []) events None
-      unopened_on events why (OpensNone opens nothing told) = strange_as why false false events (NotLooked nothing) opens ((let f : ◌≡◌ {A = Result (Moment DraftView) OpenGameError} (Err why) (Err why_not.NotOpen) = told in cc), refl)
+      unopened_on events why (OpensNone opens nothing told) = strange_as life shut why false false events (NotLooked nothing) opens ((let f : ◌≡◌ {A = Result (Moment DraftView) OpenGameError} (Err why) (Err why_not.NotOpen) = told in cc), refl)
       unopened_on events why (NotFound why' opens finds told) =
           let same : why ≡ why' = let f : ◌≡◌ {A = Result (Moment DraftView) OpenGameError} (Err why) (Err why') = told in cc in
-          strange_as why false true events (Looked (Err why') finds) opens (IsRefused (inl (events, subst (λ (w : OpenGameError). facts.finds place stamp (Err w) events) (sym same) finds)))
+          strange_as life shut why false true events (Looked (Err why') finds) opens (IsRefused (IsNotFound events (subst (λ (w : OpenGameError). facts.finds place stamp (Err w) events) (sym same) finds)))
       unopened_on events why (IsOther game opens finds not told) =
-          strange_as why false true events (Looked (Ok game) finds) opens (IsAnother game (events, finds) not (let f : ◌≡◌ {A = Result (Moment DraftView) OpenGameError} (Err why) (Err why_not.OtherGame) = told in cc))
+          strange_as life shut why false true events (Looked (Ok game) finds) opens (IsAnother game (events, finds) not (let f : ◌≡◌ {A = Result (Moment DraftView) OpenGameError} (Err why) (Err why_not.OtherGame) = told in cc))
       unopened_on events why (IsFound game looked rest opens finds game_is takes are) = by_taking game looked rest events why opens finds game_is are takes
 
     -- ---- the game is open, or is opened
@@ -213,6 +251,7 @@ module _ {G : Type 0} (facts : GamesFacts G) (t : CommonView) (g : G) where
       reached : (game : GameConfig) (looked taken put events : List Event) (got : Option (List ℕ)) → facts.finds place stamp (Ok game) looked → IsGameOf t.manifest stamp game.name.items game.start game.delay → facts.takes g stamp (Ok got) taken → events ≡ looked ++ (taken ++ put) → OpensSeat facts place stamp (setup_of t game.name.items game.start game.delay) (found_draft got) put (Ok at) → Reaches life at events
       reached game looked taken put events got finds game_is takes are (SeatRefused after fault h nothing told) = absurd (let f : ◌≡◌ {A = Result (Moment DraftView) OpenGameError} (Ok at) (Err (unopened_by fault)) = told in cc)
       reached game looked taken put events got finds game_is takes are (SeatUnkept after v bytes h to_put keeps told) = absurd (let f : ◌≡◌ {A = Result (Moment DraftView) OpenGameError} (Ok at) (Err why_not.Keeper) = told in cc)
+      reached game looked taken put events got finds game_is takes are (SeatNotHeld after v h kept told) = absurd (let f : ◌≡◌ {A = Result (Moment DraftView) OpenGameError} (Ok at) (Err why_not.OutOfMemory) = told in cc)
       reached game looked taken put events got finds game_is takes are (SeatOpened after v h kept told) = by (opened facts place stamp (setup_of t game.name.items game.start game.delay) got after v put h kept)
         where
           same : at ≡ moment v (settled after)
@@ -222,13 +261,7 @@ module _ {G : Type 0} (facts : GamesFacts G) (t : CommonView) (g : G) where
           by x = record {
             here = moment v x.now;
             acts = Opens stamp (opening_to life shut game looked finds game_is taken put got takes x.now) v ∷ [];
-            on = record {
-              goes = λ left. (Open (moment v x.now), opens_to life shut game looked finds game_is taken put got takes x.now (Ok v) x.opening left.0, refl);
-              leads = refl;
-              own = (refl, tt);
-              replies_are = refl;
-              makes = (events, [], sym (append-nil events), (opens_by_events life shut game looked finds game_is taken put got takes x.now events are x.puts, x.none), refl);
-            };
+            on = opens_on life shut game looked finds game_is taken put got takes after v events are x;
             is_at = record { same = same ∙ ap (λ (d : DraftView). moment v d) x.left; kept = x.none; runs = x.runs };
           }
 
@@ -261,20 +294,16 @@ module _ {G : Type 0} (facts : GamesFacts G) (t : CommonView) (g : G) where
     same_message : (m' : Message) → heard_in datagram ≡ Ok m' → m' ≡ m
     same_message m' h = let f : ◌≡◌ {A = Result Message MessageFault} (Ok m') (Ok m) = sym h ∙ is in cc
 
-    -- where a record is kept its game is left where the answer leaves it
-    leaves_kept : (e : Exchange DraftView) (is_kept : Bool) → is_unput e.after.keeper.to_put is_kept e.told ≡ false → fate_leaves (Answered stamp e is_kept) ≡ Some (moment e.after.arbiter (settled e.after.keeper))
-    leaves_kept ex is_kept at = grind arith
-
     module _ (was now : Option (Moment DraftView)) (life : Life) (events : List Event) (isat : IsAt was life) where
-      answered_fate : (first rest : List Event) (at after : Moment DraftView) (told : Told) (is_kept : Bool) → HasGame facts t g m was first at → AnswersBy facts g stamp at m told after is_kept rest → events ≡ first ++ rest → IsLeftOpen (fate_leaves (Answered stamp (exchange datagram told after) is_kept)) now → (is_unput after.keeper.to_put is_kept told ≡ true → now ≡ None) → Next stamp life (answer_reply after told is_kept ∷ []) events now
-      answered_fate first rest at after told is_kept has answers are own lost = by (has_game was life at first isat has)
+      answered_fate : (first rest : List Event) (at after : Moment DraftView) (told : Told) (is_kept : Bool) → HasGame facts t g m was first at → AnswersBy facts g stamp at m told after is_kept rest → events ≡ first ++ rest → now ≡ fate_leaves (Answered stamp (exchange datagram told after) is_kept) → Next stamp life (answer_reply after told is_kept ∷ []) events now
+      answered_fate first rest at after told is_kept has answers are own = by (has_game was life at first isat has)
         where
           by : Reaches life at first → Next stamp life (answer_reply after told is_kept ∷ []) events now
           by r =
               let v = r.here.arbiter in
               let returns : ReturnsAnswer draft_facts (moment v (found_draft r.here.keeper.kept)) (answer_to_any v m) told after = subst (λ (a : Moment DraftView). ReturnsAnswer draft_facts a (answer_to_any a.arbiter m) told after) r.is_at.same answers.answers in
               let c : Carried facts place stamp v r.here.keeper (answer_at v datagram) told after is_kept rest = carried facts place stamp v r.here.keeper r.is_at.runs (answer_at v datagram) told after is_kept rest (subst (λ (a : Answer). ReturnsAnswer draft_facts (moment v (found_draft r.here.keeper.kept)) a told after) (answer_is v) returns) answers.kept in
-              let n : Next stamp (Open r.here) (answer_reply after told is_kept ∷ []) rest now = answered_on r.here told after is_kept rest c r.is_at.kept now lost (λ b. subst (λ (x : Option (Moment DraftView)). IsLeftOpen x now) (leaves_kept (exchange datagram told after) is_kept b) own) in
+              let n : Next stamp (Open r.here) (answer_reply after told is_kept ∷ []) rest now = answered_on r.here told after is_kept rest c r.is_at.kept now own in
               record {
                 acts = r.acts ++ n.acts;
                 to = n.to;
@@ -282,23 +311,19 @@ module _ {G : Type 0} (facts : GamesFacts G) (t : CommonView) (g : G) where
                 at = n.at;
               }
 
-      pub fated : (fate : Fate) → GoesTo facts t g datagram was events fate → IsLeftOpen (fate_leaves fate) now → (is_lost fate ≡ true → now ≡ None) → Next stamp life (fate_reply fate ∷ []) events now
-      fated fate (IsUnread fault h nothing f) own lost = absurd (let x : ◌≡◌ {A = Result Message MessageFault} (Ok m) (Err fault) = sym is ∙ h in cc)
-      fated fate (IsUnopened m' why h none opens f) own lost =
+      pub fated : (fate : Fate) → GoesTo facts t g datagram was events fate → now ≡ fate_leaves fate → Next stamp life (fate_reply fate ∷ []) events now
+      fated fate (IsUnread fault h nothing f) own = absurd (let x : ◌≡◌ {A = Result Message MessageFault} (Ok m) (Err fault) = sym is ∙ h in cc)
+      fated fate (IsUnopened m' why h none opens f) own =
           let same : m' ≡ m = same_message m' h in
           let fate_is : fate ≡ Unopened stamp why = f ∙ ap (λ (x : Message). Unopened (stamp_in x) why) same in
           let opens_it : OpensFor facts t g m events (Err why) = subst (λ (x : Message). OpensFor facts t g x events (Err why)) same opens in
-          let gone : now ≡ None = either (subst (λ (x : Fate). IsLeftOpen (fate_leaves x) now) fate_is own) in
+          let gone : now ≡ None = own ∙ ap fate_leaves fate_is in
           subst (λ (x : Fate). Next stamp life (fate_reply x ∷ []) events now) (sym fate_is)
           (subst (Next stamp life (unopened stamp datagram why ∷ []) events) (sym gone) (unopened_on life (subst (λ (w : Option (Moment DraftView)). IsAt w life) none isat) events why opens_it))
-        where
-          either : (now ≡ None) ⊎ (now ≡ None) → now ≡ None
-          either (inl x) = x
-          either (inr x) = x
-      fated fate (IsAnswered m' first rest at after told is_kept h has answers are f) own lost =
+      fated fate (IsAnswered m' first rest at after told is_kept h has answers are f) own =
           let same : m' ≡ m = same_message m' h in
           let fate_is : fate ≡ Answered stamp (exchange datagram told after) is_kept = f ∙ ap (λ (x : Message). Answered (stamp_in x) (exchange datagram told after) is_kept) same in
           subst (λ (x : Fate). Next stamp life (fate_reply x ∷ []) events now) (sym fate_is)
           (answered_fate first rest at after told is_kept (subst (λ (x : Message). HasGame facts t g x was first at) same has)
           (subst (λ (x : Message). AnswersBy facts g (stamp_in x) at x told after is_kept rest) same answers) are
-          (subst (λ (x : Fate). IsLeftOpen (fate_leaves x) now) fate_is own) (subst (λ (x : Fate). is_lost x ≡ true → now ≡ None) fate_is lost))
+          (own ∙ ap fate_leaves fate_is))

@@ -6,6 +6,7 @@ use Rattle.arbiter_core.specs.Delivers.{Moment}
 use Rattle.arbiter_core.specs.Setups.{SetupView}
 use Rattle.arbiter_server.specs.Games.{CommonView, Fresh, GameStatus, IsGameOf, Open, Shut, setup_of}
 use Rattle.arbiter_server.specs.declared.fault.OpenGameError.{OpenGameError}
+use Rattle.arbiter_server.specs.declared.fault.Uncommitted.{Uncommitted}
 use Rattle.arbiter_server.specs.declared.games.GameConfig.{GameConfig}
 use Rattle.system_io.specs.Records.{StoredRecord}
 use Rattle.system_io.specs.declared.recipient.Recipient.{Recipient}
@@ -136,7 +137,7 @@ pub record KeepsAtOnce {G : Type 0} (facts : GamesFacts G) : Type 0 where
       → bytes_eq other stamp ≡ false → (is_done : Bool) (events past : List Event)
       → facts.keeps place other bytes is_done events → StaysFound (facts.places place stamp) stamp past events
   pub commits : (place : facts.Place) (g : G) → facts.place g ≡ place
-      → (stamp : List ℕ) (is_done : Bool) (events past : List Event) → facts.commits g is_done events
+      → (stamp : List ℕ) (told : Result (Unit {0}) Uncommitted) (events past : List Event) → facts.commits g told events
       → StaysFound (facts.places place stamp) stamp past events
 
 -- ---- a game in a run
@@ -168,8 +169,8 @@ pub record FoundGame {G : Type 0} (facts : GamesFacts G) (place : facts.Place) (
 -- THE LAW: where records are put at once and are durable, each opening of a game is over what it left, and whatever a start may find is that
 abbrev pub GamesAreFound : {T P F K S L G : Type 0} → Outside T P F K S L → GamesFacts G → Type 0
 GamesAreFound {F} {G} o facts =
-    (most : ℕ) (form : LineForm) (texts : List (List ℕ)) (to : List Recipient) (old new : Server G F) (turns : List Turn) (stamp : List ℕ) (before : PlaceKeeper) (was : GameStatus PlaceKeeper) (past : List Event)
-    → InTurns o facts most form texts old turns new → AreToldAt facts stamp old → IsAt (game_at old stamp) was
+    (form : LineForm) (texts : List (List ℕ)) (to : List Recipient) (old new : Server G F) (turns : List Turn) (stamp : List ℕ) (before : PlaceKeeper) (was : GameStatus PlaceKeeper) (past : List Event)
+    → InTurns o facts form texts old turns new → AreToldAt facts stamp old → IsAt (game_at old stamp) was
     → IsDurableAfter (facts.places (facts.place old.shared.games) stamp) stamp past (run_events to turns)
     → IsFoundIn (facts.places (facts.place old.shared.games) stamp) stamp past before was
     → FoundGame facts (facts.place old.shared.games) (common old) stamp before was (heard_in_turns turns) (game_at new stamp) (behind past (run_events to turns))
@@ -223,11 +224,10 @@ module _ {T P F K S L G : Type 0} (o : Outside T P F K S L) (facts : GamesFacts 
     pub there : facts.place r.old.shared.games ≡ place
     pub closed : (other : List ℕ) → open_at r.old other ≡ None
     pub one : (game : GameConfig) (events : List Event) → facts.finds place stamp (Ok game) events → setup_of (common r.old) game.name.items game.start game.delay ≡ setup
-    pub most : ℕ
     pub form : LineForm
     pub texts : List (List ℕ)
     pub opens : HearsAll o facts r.old r.unasked r.begun
-    pub in_turns : InTurns o facts most form texts r.begun r.turns r.mid
+    pub in_turns : InTurns o facts form texts r.begun r.turns r.mid
     pub hears : HearsAll o facts r.mid r.heard r.new
     pub first_stays : StaysFound at_place stamp past r.first
     pub asked_stays : StaysFound at_place stamp (behind (behind past r.first) (flat_map made_of r.unasked)) r.asked

@@ -1,9 +1,15 @@
 -- A game's record as the timeline has it, as a keeper (this project's own).
-use Rattle.std.specs.Prelude.{◌≡◌, ◌⊎◌, ℕ, suc, false, List, Option, Some, None, Ok, Err}
+use Rattle.std.specs.Prelude.{◌≡◌, ◌⊎◌, ℕ, suc, List, Option, Some, None, Ok, Err}
 use Rattle.arbiter_core.specs.Keeping.{KeeperFacts}
+use Rattle.arbiter_core.specs.Opens.{IsOpening}
+use Rattle.arbiter_core.specs.Views.{View}
 use Rattle.arbiter_core.specs.declared.keeper.Keep.TheVariants.{Good, FailsOld}
 use Rattle.arbiter_server.specs.Folders.{Keepers}
+use Rattle.arbiter_server.specs.Games.{CommonView, IsGameOf, setup_of}
 use Rattle.arbiter_server.specs.declared.fault.OpenGameError.{OpenGameError}
+use Rattle.arbiter_server.specs.declared.fault.OpenGameError.TheVariants.{OutOfMemory}
+use Rattle.arbiter_server.specs.declared.fault.Uncommitted.{Uncommitted}
+use Rattle.arbiter_server.specs.declared.games.GameConfig.{GameConfig}
 use Rattle.timeline.specs.Events.{Event}
 use Rattle.game_folder.specs.Holdings.{GamesFacts}
 
@@ -50,19 +56,43 @@ module _ {G : Type 0} (facts : GamesFacts G) (place : facts.Place) where
     pub events : List Event
     pub takes : facts.takes games stamp (Err why) events
 
-  -- what was noted there couldn't be committed
+  -- Over its record an arbiter of the game was opened, and what that had to put was kept. But memory was refused to keep the game open.
+  pub record IsNotHeld (stamp : List ℕ) (why : OpenGameError) : Type 0 where
+    pub memory : why ≡ OutOfMemory
+    pub common : CommonView
+    pub game : GameConfig
+    pub looked : List Event
+    pub finds : facts.finds place stamp (Ok game) looked
+    pub is : IsGameOf common.manifest stamp game.name.items game.start game.delay
+    pub games : G
+    pub there : facts.place games ≡ place
+    pub got : Option (List ℕ)
+    pub taken : List Event
+    pub takes : facts.takes games stamp (Ok got) taken
+    pub now : PlaceKeeper
+    pub arbiter : View
+    pub opening : IsOpening place_facts (setup_of common game.name.items game.start game.delay) (found_keeper got) now (Ok arbiter)
+
+  -- why no arbiter of the game is open there
+  pub data LacksGame (stamp : List ℕ) (why : OpenGameError) : Type 0 where
+    IsNotFound : (events : List Event) → facts.finds place stamp (Err why) events → LacksGame stamp why
+    IsWithheld : Withholds stamp why → LacksGame stamp why
+    NotHeld : IsNotHeld stamp why → LacksGame stamp why
+
+  -- what was noted there wasn't committed
   pub record FailsToCommit : Type 0 where
     pub games : G
     pub there : facts.place games ≡ place
+    pub why : Uncommitted
     pub events : List Event
-    pub fails : facts.commits games false events
+    pub fails : facts.commits games (Err why) events
 
   -- what is known of games at a place
   abbrev pub place_keepers : Keepers PlaceKeeper
   place_keepers = record {
     facts = place_facts;
     tells = λ stamp game. (events : List Event) × facts.finds place stamp (Ok game) events;
-    refuses = λ stamp why. ((events : List Event) × facts.finds place stamp (Err why) events) ⊎ Withholds stamp why;
+    refuses = LacksGame;
     withholds = Withholds;
     is_of = λ stamp k. k.unkept ≡ None;
     follows = Follows;

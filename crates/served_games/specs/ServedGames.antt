@@ -14,18 +14,15 @@ use Rattle.arbiter_server.specs.Games.{CommonView, Fresh, GameStatus, Goes, IsNo
 use Rattle.arbiter_server.specs.Told.{line_words}
 use Rattle.arbiter_server.specs.declared.fault.OpenGameError.{OpenGameError}
 use Rattle.arbiter_server.specs.declared.games.GameConfig.{GameConfig}
-use Rattle.move_msg.specs.Heard.{heard_in}
 use Rattle.timeline.specs.Events.{Event}
 use Rattle.timeline.specs.Outsides.{Outside}
 use Rattle.game_folder.specs.Drafts.{DraftView}
 use Rattle.game_folder.specs.Holdings.{GamesFacts}
-use Rattle.game_server.specs.Datagrams.{HearsDatagram, was_open}
-use Rattle.game_server.specs.Fates.{Answered, Fate, Unopened, Unread as UnreadBytes, found_draft, is_lost_at}
+use Rattle.game_server.specs.Fates.{found_draft}
 use Rattle.game_server.specs.Printing.{LineForm}
 use Rattle.game_server.specs.Rounds.{Heard}
 use Rattle.game_server.specs.Runs.{Answers as AnswersRound, Deed, HearsNone, InTurns, Turn}
 use Rattle.game_server.specs.Seats.{common, open_at, seat_moment}
-use Rattle.game_server.specs.declared.seat.Reply.{Reply}
 use Rattle.game_server.specs.declared.server.Server.{Server}
 use Rattle.served_games.specs.PlaceKeepers.{Follows, PlaceKeeper, has_failed, has_put, place_keepers}
 
@@ -188,24 +185,12 @@ heard_by HearsNone = []
 abbrev pub heard_in_turns : List Turn → List Heard
 heard_in_turns turns = flat_map (λ t. heard_by t.deed) turns
 
--- what was to be put of a game wasn't kept
-abbrev pub is_lost : Fate → Bool
-is_lost (UnreadBytes fault) = false
-is_lost (Unopened stamp why) = false
-is_lost (Answered stamp e is_kept) = is_lost_at e is_kept
-
 module _ {T P F K S L G : Type 0} (o : Outside T P F K S L) (facts : GamesFacts G) where
-  -- a game whose record isn't kept is closed
-  abbrev pub LostAreClosed : Type 0
-  LostAreClosed =
-      (old new : Server G F) (datagram : List ℕ) (reply : Reply) (events : List Event) (h : HearsDatagram o facts old new datagram reply events)
-      → is_lost h.fate ≡ true → was_open new (heard_in datagram) ≡ None
-
   -- THE LAW: in a run of a server each game has its own acts, from where it was to where it is
   abbrev pub GamesArePlayed : Type 0
   GamesArePlayed =
-      (most : ℕ) (form : LineForm) (texts : List (List ℕ)) (old new : Server G F) (turns : List Turn) (stamp : List ℕ) (was : GameStatus PlaceKeeper)
-      → InTurns o facts most form texts old turns new → IsAt (game_at old stamp) was
+      (form : LineForm) (texts : List (List ℕ)) (old new : Server G F) (turns : List Turn) (stamp : List ℕ) (was : GameStatus PlaceKeeper)
+      → InTurns o facts form texts old turns new → IsAt (game_at old stamp) was
       → PlayedGame facts (facts.place old.shared.games) (common old) stamp was (heard_in_turns turns) (game_at new stamp)
 
 -- all acts in turn
