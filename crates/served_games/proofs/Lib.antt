@@ -12,3 +12,4 @@ pub mod Enduring
 pub mod Stamping
 pub mod AtOnce
 pub mod OneGames
+pub mod FolderRuns

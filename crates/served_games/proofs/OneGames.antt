@@ -28,7 +28,7 @@ module _ {T P F K S L : Type 0} (o : Outside T P F K S L) (t : CommonView) (game
   abbrev setup : SetupView
   setup = setup_of t game.name.items game.start game.delay
 
-  same_setup : (c : CommonView) (other : GameConfig) → c ≡ t → game_as_told other.name.items other.start other.delay ≡ game_as_told game.name.items game.start game.delay → setup_of c other.name.items other.start other.delay ≡ setup
+  pub same_setup : (c : CommonView) (other : GameConfig) → c ≡ t → game_as_told other.name.items other.start other.delay ≡ game_as_told game.name.items game.start game.delay → setup_of c other.name.items other.start other.delay ≡ setup
   same_setup c other common_is told =
       ap (λ (x : CommonView). setup_of x other.name.items other.start other.delay) common_is ∙ ap (λ (g : GameContents). setup_of t g.name g.start g.delay) told
 
@@ -36,7 +36,7 @@ module _ {T P F K S L : Type 0} (o : Outside T P F K S L) (t : CommonView) (game
   is_served past r h = record {
     there = ap (λ (g : OneGameView). g.at) h.new.games_are;
     closed = h.new.none;
-    one = λ other events finds. same_setup (common r.old) other h.new.common_is finds.0.1;
+    one = λ other events finds happened. same_setup (common r.old) other h.new.common_is finds.0.1;
     form = h.form;
     texts = h.texts;
     opens = begun_hears o one_game_facts r.old r.begun r.unasked h.begins;

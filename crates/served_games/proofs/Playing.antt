@@ -1,5 +1,5 @@
 -- What one game does at one datagram.
-use Rattle.std.proofs.Common.{◌≡◌, inl, inr, ◌∙◌, ℕ, Bool, true, false, cond, List, [], ◌∷◌, ◌++◌, Option, Some, None, refl, sym, ap, subst, append-nil, arith}
+use Rattle.std.proofs.Common.{◌≡◌, inl, inr, ◌∙◌, ℕ, Bool, true, false, cond, List, [], ◌∷◌, ◌++◌, Option, Some, None, refl, sym, ap, subst, append-nil}
 use Rattle.std.specs.Prelude.{Result, Ok, Err}
 use Rattle.arbiter_core.specs.Delivers.{Exchange, Moment, ReturnsAnswer, Told, answer_at, answer_of, answer_to_any, exchange, in_game, moment}
 use Rattle.arbiter_core.specs.Answering.{Answer}
@@ -151,7 +151,7 @@ module _ {G : Type 0} (facts : GamesFacts G) (t : CommonView) (g : G) where
         }
 
         opens_by_events : (now : PlaceKeeper) (events : List Event) → events ≡ looked ++ (taken ++ put) → PutsBy facts place stamp (found_keeper got) now put → OpensBy facts place stamp (opening_to now) events
-        opens_by_events now events are puts = record { game = game; looked = looked; finds = finds; games = g; there = refl; taken = taken; takes = takes; put = put; puts = puts; are = are }
+        opens_by_events now events are puts = record { game = game; name = refl; start = refl; delay = refl; looked = looked; finds = finds; games = g; there = refl; taken = taken; takes = takes; put = put; puts = puts; are = are }
 
         refuses : (now : PlaceKeeper) (fault : OpenFault) (why : OpenGameError) (events : List Event) → why ≡ unopened_by fault → events ≡ looked ++ (taken ++ put) → IsOpening place_facts (setup_of t game.name.items game.start game.delay) (found_keeper got) now (Err fault) → PutsBy facts place stamp (found_keeper got) now put → Next stamp life (unopened stamp datagram why ∷ []) events None
         refuses now fault why events w are h puts = record {

@@ -1,6 +1,6 @@
 -- What a start may find of a game's record, by all that happened before, over all runs (this project's own).
 use Rattle.std.specs.Prelude.{◌≡◌, ◌≢◌, ◌⊎◌, ◌++◌, ℕ, Bool, true, false, List, [], ◌∷◌, Option, Some, None, Result, Ok, Err, cond}
-use Rattle.std.specs.List.{AllByRecursion, flat_map}
+use Rattle.std.specs.List.{AllByRecursion, Contains, flat_map}
 use Rattle.std.specs.Str.{bytes_eq}
 use Rattle.arbiter_core.specs.Delivers.{Moment}
 use Rattle.arbiter_core.specs.Setups.{SetupView}
@@ -218,12 +218,13 @@ module _ {T P F K S L G : Type 0} (o : Outside T P F K S L) (facts : GamesFacts 
   abbrev at_place : KeptAt
   at_place = facts.places place stamp
 
-  -- A run at this place, behind what happened before it. Its server begins with no game open. Premise: the game that is found under the stamp
-  -- is this one; and before and between these, and when it stopped, nothing else happened to the game's record.
+  -- A run at this place, behind what happened before it. Its server begins with no game open. Premise: whatever game was found under the stamp,
+  -- by events of this run, is this one; and before and between these, and when it stopped, nothing else happened to the game's record.
   pub record IsServedRun (past : List Event) (r : ServedRun G F) : Type 0 where
     pub there : facts.place r.old.shared.games ≡ place
     pub closed : (other : List ℕ) → open_at r.old other ≡ None
-    pub one : (game : GameConfig) (events : List Event) → facts.finds place stamp (Ok game) events → setup_of (common r.old) game.name.items game.start game.delay ≡ setup
+    pub one : (game : GameConfig) (events : List Event) → facts.finds place stamp (Ok game) events → AllByRecursion (Contains (work_of r)) events
+        → setup_of (common r.old) game.name.items game.start game.delay ≡ setup
     pub form : LineForm
     pub texts : List (List ℕ)
     pub opens : HearsAll o facts r.old r.unasked r.begun

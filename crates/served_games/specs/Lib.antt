@@ -4,3 +4,4 @@ pub mod Lasting
 pub mod Durable
 pub mod Unasked
 pub mod OneGames
+pub mod FolderRuns

@@ -91,6 +91,9 @@ module _ {G : Type 0} (facts : GamesFacts G) (place : facts.Place) (stamp : List
   -- the game is looked for, its record is taken, and what opening an arbiter over it has to put is kept, or that fails
   pub record OpensBy (o : Opening PlaceKeeper) (events : List Event) : Type 0 where
     pub game : GameConfig
+    pub name : o.setup.name ≡ game.name.items
+    pub start : o.setup.start ≡ game.start
+    pub delay : o.setup.delay ≡ game.delay
     pub looked : List Event
     pub finds : facts.finds place stamp (Ok game) looked
     pub games : G

@@ -3,6 +3,7 @@
 ghost use Rattle.game_folder.specs.FolderGames.{folder_games_facts};
 ghost use Rattle.game_folder.specs.OneGame.{one_game_facts};
 ghost use Rattle.served_games.specs.Durable.{GamesAreFound, KeepsAtOnce, RunsLast};
+ghost use Rattle.served_games.specs.FolderRuns.{FolderGamesKeepWhatTheyTold};
 ghost use Rattle.served_games.specs.Lasting.{EachLasts};
 ghost use Rattle.served_games.specs.OneGames.{OneGameKeepsWhatItTold};
 ghost use Rattle.served_games.specs.ServedGames.{GamesArePlayed, PlayedAreHosted};
@@ -52,6 +53,13 @@ pub fn one_game_keeps_at_once()
 /// behind the run is what the game keeps or left.
 pub fn folder_games_are_found<S: System>(_system: &S)
     ensures { GamesAreFound (S.outside _system.now) folder_games_facts }
+{}
+
+/// What a game of a folder told stays, over all runs of new servers of the folder, wherever each of them stopped. The premises are in the
+/// statement (`specs/FolderRuns.antt`): the game has its stamp by the tables of the servers; its own file has the game's text whenever it is
+/// read; and the file of its record is durable.
+pub fn folder_games_keep_what_they_told<S: System>(_system: &S)
+    ensures { FolderGamesKeepWhatTheyTold (S.outside _system.now) }
 {}
 
 /// So it is of one game, where its file is durable; and whatever a start may find behind any runs is a record in which all is that each answer
