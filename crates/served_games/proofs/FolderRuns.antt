@@ -1,12 +1,12 @@
 -- What a game of a folder told lasts.
-use Rattle.std.proofs.Common.{◌≡◌, ◌≤◌, ◌∙◌, inl, ℕ, List, [], ◌∷◌, Option, length, refl, sym, ap, subst}
-use Rattle.std.specs.Prelude.{Result, Ok, Err, IfOk}
+use Rattle.std.proofs.Common.{◌≡◌, ◌∙◌, inl, ℕ, List, [], ◌∷◌, refl, ap, subst}
+use Rattle.std.specs.Prelude.{Result, Ok, Err}
 use Rattle.std.specs.List.{AllByRecursion, Contains}
 use Rattle.std.proofs.lemmas.List.Elements.{All-contains, All-from_recursion}
 use Rattle.arbiter_core.specs.Setups.{SetupView}
 use Rattle.arbiter_server.proofs.GameLaws.{one_game}
 use Rattle.arbiter_server.specs.GameFiles.{GameContents, SpellsGame, game_as_told}
-use Rattle.arbiter_server.specs.GameFolders.{game_path, kept_path, most_game_bytes}
+use Rattle.arbiter_server.specs.GameFolders.{game_path, kept_path}
 use Rattle.arbiter_server.specs.Games.{CommonView, setup_of}
 use Rattle.arbiter_server.specs.declared.fault.OpenGameError.{OpenGameError}
 use Rattle.arbiter_server.specs.declared.fault.OpenGameError.TheVariants as unopened

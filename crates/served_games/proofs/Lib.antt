@@ -13,3 +13,4 @@ pub mod Stamping
 pub mod AtOnce
 pub mod OneGames
 pub mod FolderRuns
+pub mod FileHistories

@@ -24,7 +24,7 @@ use Rattle.game_folder.specs.Drafts.{DraftView, draft_facts, settled}
 use Rattle.game_folder.specs.Holdings.{GamesFacts}
 use Rattle.game_server.specs.Datagrams.{IsLeftOpen}
 use Rattle.game_server.specs.Fates.{Answered, AnswersBy, Fate, GoesTo, HasGame, IsAnswered, IsFound, IsOther, IsUnopened, IsUnread, NotFound, OpensFor, OpensNone, OpensSeat, SeatNotHeld, SeatOpened, SeatRefused, SeatUnkept, TakesAndOpens, TakesNone, TakesOne, Unopened, fate_leaves, fate_line, fate_outputs, found_draft, is_unput}
-use Rattle.served_games.specs.PlaceKeepers.{IsNotFound, LacksGame, NotHeld, PlaceKeeper, found_keeper, has_failed, place_facts, place_keepers}
+use Rattle.served_games.specs.PlaceKeepers.{IsNotFound, LacksArbiter, NotHeld, PlaceKeeper, found_keeper, has_failed, place_facts, place_keepers}
 use Rattle.served_games.specs.ServedGames.{GoesOn, IsAt, IsOpenAt, IsOverLeft, Looked, LooksInVain, NothingPut, NotLooked, NotTaken, OpensBy, PutFails, PutsBy}
 use Rattle.served_games.proofs.Carrying.{Carried, carried}
 use Rattle.served_games.proofs.Going.{Acts, Life, on_join, on_nothing}
@@ -178,7 +178,7 @@ module _ {G : Type 0} (facts : GamesFacts G) (t : CommonView) (g : G) where
         }
 
         -- but memory is refused to keep it open, so it is closed at once
-        lacks_it : (why : OpenGameError) → why ≡ why_not.OutOfMemory → (after : DraftView) (v : View) → IsOpened facts place stamp (setup_of t game.name.items game.start game.delay) got after v put → LacksGame facts place stamp why
+        lacks_it : (why : OpenGameError) → why ≡ why_not.OutOfMemory → (after : DraftView) (v : View) → IsOpened facts place stamp (setup_of t game.name.items game.start game.delay) got after v put → LacksArbiter facts place stamp why
         lacks_it why memory after v x = NotHeld (record {
           memory = memory;
           common = t;

@@ -5,3 +5,4 @@ pub mod Durable
 pub mod Unasked
 pub mod OneGames
 pub mod FolderRuns
+pub mod FileHistories

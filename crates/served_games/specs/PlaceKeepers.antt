@@ -74,10 +74,10 @@ module _ {G : Type 0} (facts : GamesFacts G) (place : facts.Place) where
     pub opening : IsOpening place_facts (setup_of common game.name.items game.start game.delay) (found_keeper got) now (Ok arbiter)
 
   -- why no arbiter of the game is open there
-  pub data LacksGame (stamp : List ℕ) (why : OpenGameError) : Type 0 where
-    IsNotFound : (events : List Event) → facts.finds place stamp (Err why) events → LacksGame stamp why
-    IsWithheld : Withholds stamp why → LacksGame stamp why
-    NotHeld : IsNotHeld stamp why → LacksGame stamp why
+  pub data LacksArbiter (stamp : List ℕ) (why : OpenGameError) : Type 0 where
+    IsNotFound : (events : List Event) → facts.finds place stamp (Err why) events → LacksArbiter stamp why
+    IsWithheld : Withholds stamp why → LacksArbiter stamp why
+    NotHeld : IsNotHeld stamp why → LacksArbiter stamp why
 
   -- what was noted there wasn't committed
   pub record FailsToCommit : Type 0 where
@@ -92,7 +92,7 @@ module _ {G : Type 0} (facts : GamesFacts G) (place : facts.Place) where
   place_keepers = record {
     facts = place_facts;
     tells = λ stamp game. (events : List Event) × facts.finds place stamp (Ok game) events;
-    refuses = LacksGame;
+    refuses = LacksArbiter;
     withholds = Withholds;
     is_of = λ stamp k. k.unkept ≡ None;
     follows = Follows;

@@ -3,6 +3,7 @@
 ghost use Rattle.game_folder.specs.FolderGames.{folder_games_facts};
 ghost use Rattle.game_folder.specs.OneGame.{one_game_facts};
 ghost use Rattle.served_games.specs.Durable.{GamesAreFound, KeepsAtOnce, RunsLast};
+ghost use Rattle.served_games.specs.FileHistories.{FilesAreDurable};
 ghost use Rattle.served_games.specs.FolderRuns.{FolderGamesKeepWhatTheyTold};
 ghost use Rattle.served_games.specs.Lasting.{EachLasts};
 ghost use Rattle.served_games.specs.OneGames.{OneGameKeepsWhatItTold};
@@ -73,4 +74,10 @@ pub fn one_game_lasts<S: System>(_system: &S)
 /// are in the statement (`specs/OneGames.antt`): the game has its stamp by the tables of its servers; and the file of its record is durable.
 pub fn one_game_keeps_what_it_told<S: System>(_system: &S)
     ensures { OneGameKeepsWhatItTold (S.outside _system.now) }
+{}
+
+/// The file of a record is durable, where each call at it does what `System` promises (`files::start`, `files::put`), a put in which the process
+/// stops leaves what was there or its bytes, and nobody else writes it.
+pub fn files_are_durable<S: System>(_system: &S)
+    ensures { FilesAreDurable (S.outside _system.now) }
 {}
