@@ -1,10 +1,11 @@
 -- What `start` and `put` promise makes a file durable.
-use Rattle.std.proofs.Common.{◌≡◌, ◌≢◌, ◌⊎◌, inl, inr, ◌∙◌, ℕ, Bool, true, false, List, [], ◌∷◌, Option, Some, refl, sym, ap, subst}
-use Rattle.std.specs.Prelude.{Result, Ok, Err}
-use Rattle.system_io.specs.KeptFiles.{FindsOldOrNew, IsOneOfFound}
+use Rattle.std.proofs.Common.{◌≡◌, ◌⊎◌, inl, inr, ℕ, true, false, List, [], ◌∷◌, Option, Some, refl, sym, subst}
+use Rattle.std.specs.Prelude.{Result, Ok, Err, IfOk, OnOk, Vec}
+use Rattle.std.specs.declared.alloc.Global.{Global}
+use Rattle.system_io.specs.KeptFiles.{FindsOldOrNew, IsOneOfFound, bytes_of}
 use Rattle.system_io.specs.declared.reading.ReadFault.{ReadFault}
-use Rattle.timeline.specs.Events.{Event, Found, Put}
-use Rattle.timeline.specs.Outsides.{IsConsistent, Outside}
+use Rattle.timeline.specs.Events.{Event, Found, Put, found_by, is_done}
+use Rattle.timeline.specs.Outsides.{IsConsistent, LeavesOldOrNew, Outside}
 use Rattle.game_folder.specs.Places.{InFile}
 use Rattle.served_games.specs.Durable.{FindsWhatMay, IsDurableAfter, MayFind}
 use Rattle.served_games.specs.FileHistories.{ByCall, CallsFile, StartFails, Elsewhere, FilesAreDurable, GoesOnFile, HasOne, IsBehindOne, IsElsewhere, IsFileHistory, PutFails, Puts, Starts, StaysSo, StopsInPut}
@@ -93,6 +94,17 @@ module _ {T P F K S L : Type 0} (o : Outside T P F K S L) (one : IsConsistent o)
   durable_so past old (e ∷ es) h k =
       let next = goes_so past old h.0 e h.1 k in
       (next.0, durable_so (e ∷ past) h.0 es h.2 next.1)
+
+-- ---- what a call promises
+
+module _ {T P F K S L : Type 0} (o : Outside T P F K S L) (path : List ℕ) (old new : F) where
+  pub start_calls : (r : Result (Option (Vec ℕ Global)) ReadFault) → IfOk r (λ got. IsOneOfFound (o.file old) (bytes_of got)) → IfOk r (λ got. (o.file new).finds (bytes_of got) (bytes_of got)) → StaysSo o old new → CallsFile o path old new (Found path (found_by r))
+  start_calls (Ok got) is finds stays = Starts (bytes_of got) is finds refl
+  start_calls (Err fault) is finds stays = StartFails fault stays refl
+
+  pub put_calls : {A E : Type 0} (r : Result A E) (bytes : List ℕ) → OnOk r ((o.file new).finds (Some bytes) (Some bytes)) → LeavesOldOrNew r (o.file old) (o.file new) bytes → CallsFile o path old new (Put path bytes (is_done r))
+  put_calls (Ok a) bytes finds left = Puts bytes finds refl
+  put_calls (Err e) bytes finds left = PutFails bytes left refl
 
 pub files_are_durable : {T P F K S L : Type 0} (o : Outside T P F K S L) → IsConsistent o → FilesAreDurable o
 files_are_durable o one path stamp first events h = durable_so o one path stamp [] first events h (inr (λ found. tt))
