@@ -201,7 +201,7 @@ module _ {G : Type 0} (facts : GamesFacts G) (t : CommonView) (g : G) where
             let here = moment v x.now in
             let s : Next stamp (Shut x.now) (unopened stamp datagram why ∷ []) [] None = strange_as (Shut x.now) tt why false true [] (NotLooked refl) opens (IsRefused (lacks_it why memory after v x)) in
             let rest : GoesOn facts place t stamp (Open here) (Closes stamp x.now ∷ s.acts) (unopened stamp datagram why ∷ []) [] s.to =
-                on_join facts place t stamp (Open here) (Shut x.now) s.to (Closes stamp x.now ∷ []) s.acts [] (unopened stamp datagram why ∷ []) [] [] (closing stamp here) s.on in
+            on_join facts place t stamp (Open here) (Shut x.now) s.to (Closes stamp x.now ∷ []) s.acts [] (unopened stamp datagram why ∷ []) [] [] (closing stamp here) s.on in
             record {
               acts = Opens stamp (opening_to x.now) v ∷ Closes stamp x.now ∷ s.acts;
               to = s.to;
