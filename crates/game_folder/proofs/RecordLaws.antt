@@ -1,5 +1,5 @@
 -- Records that are taken from files and put in them.
-use Rattle.std.proofs.Common.{◌≡◌, ◌∙◌, inl, inr, ℕ, true, List, [], ◌∷◌, Option, Some, None, refl, sym, ap, subst, arith}
+use Rattle.std.proofs.Common.{◌≡◌, ◌∙◌, inl, inr, ℕ, true, List, [], ◌∷◌, Option, Some, None, refl, sym, ap, subst, arith, IsOk}
 use Rattle.std.specs.List.{Contains}
 use Rattle.std.specs.Prelude.{Result, Ok, Err, IfOk, IsSome, OnOk, option_map}
 use Rattle.arbiter_server.specs.declared.fault.OpenGameError.{OpenGameError}
@@ -61,7 +61,7 @@ module _ {T P F K S L : Type 0} (o : Outside T P F K S L) where
   module _ {G : Type 0} (facts : GamesFacts G) where
     -- a game's record is taken from a file
     pub takes_by_file : (g : G) (path stamp : List ℕ) (result : Result (KeptGame F) OpenGameError) (events : List Event) → facts.places (facts.place g) stamp ≡ InFile path
-        → ((got : Result (Option (List ℕ)) OpenGameError) → TakesFromFile path got events → facts.takes g stamp got events)
+        → ((got : Result (Option (List ℕ)) OpenGameError) → TakesFromFile path got events → facts.takes g stamp got events g)
         → (p : List ℕ) → p ≡ path → TakesFile o p stamp result events → TakesGame facts o g g stamp result events
     takes_by_file g path stamp result events at takes p same taken =
         let t = subst (λ (q : List ℕ). TakesFile o q stamp result events) same taken in
@@ -86,15 +86,16 @@ module _ {T P F K S L : Type 0} (o : Outside T P F K S L) where
     -- what a game has to put is put in its file
     pub keeps_by_file : {A E : Type 0} (old new : G) (path : List ℕ) (before after : KeptGame F) (result : Result A E) (events : List Event) → facts.places (facts.place old) before.stamp ≡ InFile path
         → facts.place new ≡ facts.place old → StaysNoted facts old new → option_map o.path before.file ≡ Some path
-        → ((bytes : List ℕ) → events ≡ puts_in_file path bytes (is_done result) → facts.keeps (facts.place old) before.stamp bytes (is_done result) events)
+        → (IsOk result → new ≡ old)
+        → ((bytes : List ℕ) → events ≡ puts_in_file path bytes (is_done result) → facts.keeps old before.stamp bytes (is_done result) events new)
         → PutsFile o before after result events → KeepsGame facts o old new before after result events
-    keeps_by_file {A = A} {E = E} old new path before after result events at place noted file keeps p = record {
+    keeps_by_file {A = A} {E = E} old new path before after result events at place noted file stays keeps p = record {
       still = record { quiet = quiet before.draft.to_put refl; place = place };
       noted = noted;
       of = p.of;
       within = subst (λ (a : facts.Place). IsKeptIn o (facts.places a after.stamp) after.file) (sym place) (kept_in_file (facts.places (facts.place old) after.stamp) path after.file (ap (facts.places (facts.place old)) p.of ∙ at) (p.at ∙ file));
       draft = p.draft;
-      none = p.none;
+      none = λ is. let n = p.none is in (n.0, stays n.1, n.1);
       some = λ bytes is. keeps bytes (p.some path bytes file is);
       known = λ bytes is. put_known bytes result (p.some path bytes file is);
     }

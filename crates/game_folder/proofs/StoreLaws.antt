@@ -14,14 +14,15 @@ use Rattle.system_io.specs.Records.{GivesBack, StoreFacts, entry_record}
 use Rattle.system_io.specs.declared.record_store.PutFault.{PutFault}
 use Rattle.system_io.specs.declared.record_store.PutFault.TheVariants.{OutOfMemory}
 use Rattle.system_io.specs.declared.record_store.Entry.{Entry}
-use Rattle.timeline.specs.Events.{Committed, Event, RecordSought, stamped}
+use Rattle.timeline.specs.Events.{Committed, Event, RecordSought, stamped, is_done}
 use Rattle.timeline.specs.Outsides.{Outside}
 use Rattle.game_folder.specs.Drafts.{settled}
-use Rattle.game_folder.specs.Holdings.{CommitsGames, IsKeptIn, IsTaken, KeepsGame, SendsNothing, StaysNoted, TakesGame, kept_of, known}
+use Rattle.game_folder.specs.Holdings.{CommitsGames, IsKeptIn, IsTaken, KeepsGame, SendsNothing, StaysNoted, TakesGame, kept_of, known, without_value}
 use Rattle.game_folder.specs.Places.{InFile, InStore, WasKept}
-use Rattle.game_folder.specs.StoreGames.{CommitsNoted, CouldNot, HadNoRoom, HasAll, HadNone, IsInStore, HasNoted, LacksMemory, LooksUpRecord, LosesStore, MayGive, Notes, StoredGames, TakesFromStore, WasNoted, WasRefused, WasSought, its_bytes, given_record, kept_bytes, last_noted, loss_told, store_games_facts}
+use Rattle.game_folder.specs.StoreGames.{CommitsNoted, CouldNot, HadNoRoom, HasAll, HadNone, IsInStore, HasNoted, LacksMemory, LeavesNoted, LooksUpRecord, LosesStore, MayGive, Notes, NotesBytes, StoredGames, TakesFromStore, WasNoted, WasRefused, WasSought, its_bytes, given_record, kept_bytes, last_noted, loss_told, store_games_facts}
 use Rattle.game_folder.specs.declared.games.KeptGame.{KeptGame}
 use Rattle.game_folder.specs.declared.store_games.Loss.{Loss}
+use Rattle.game_folder.specs.declared.store_games.Loss.TheVariants.{OfMemory, OfStore}
 use Rattle.game_folder.proofs.NotedLaws.{contains_map, given_value, last_is_noted, noted_first, store_else}
 
 -- ---- what a game puts
@@ -45,8 +46,8 @@ module _ {T P F K S L : Type 0} (o : Outside T P F K S L) (old new : StoredGames
     of = of;
     within = subst (λ (f : Option F). IsKeptIn o (InStore (o.store_path new.store)) f) (sym (file ∙ stored)) (o.store_path new.store, refl);
     draft = draft;
-    none = λ is. (refl, done result (subst (λ (put : Option (List ℕ)). Notes old before.stamp put result new) is notes));
-    some = λ bytes is. refl;
+    none = λ is. let n = subst (λ (put : Option (List ℕ)). Notes old before.stamp put result new) is notes in (refl, same result n, done result n);
+    some = λ bytes is. (refl, by_done bytes result (subst (λ (put : Option (List ℕ)). Notes old before.stamp put result new) is notes));
     known = λ bytes is. put_known bytes result (subst (λ (put : Option (List ℕ)). Notes old before.stamp put result new) is notes);
   }
     where
@@ -62,6 +63,14 @@ module _ {T P F K S L : Type 0} (o : Outside T P F K S L) (old new : StoredGames
       stays (Some put) (Ok a) is = noted_on old new (is.0 ∷ []) (ap (λ (g : StoredGames S). g.loss) is.2) (ap (λ (g : StoredGames S). g.noted) is.2)
       stays (Some put) (Err e) is = λ stamp bytes n. inl (subst (λ (l : Option Loss). IsSome l) (sym (ap (λ (g : StoredGames S). g.loss) is)) refl)
 
+      same : (r : Result A E) → Notes old before.stamp None r new → new ≡ old
+      same (Ok a) is = is
+      same (Err e) is = absurd is
+
+      by_done : (bytes : List ℕ) (r : Result A E) → Notes old before.stamp (Some bytes) r new → NotesBytes old before.stamp bytes (is_done r) new
+      by_done bytes (Ok a) is = is
+      by_done bytes (Err e) is = is
+
       done : (r : Result A E) → Notes old before.stamp None r new → IsOk r
       done (Ok a) is = refl
       done (Err e) is = absurd is
@@ -73,6 +82,11 @@ module _ {T P F K S L : Type 0} (o : Outside T P F K S L) (old new : StoredGames
           inl (inr (is.0, subst (λ (es : List Entry). Contains es is.0) (sym noted) (Contains-push old.noted is.0), is.1.of, is.1.bytes_are))
 
 -- ---- a commit
+
+-- a commit that can't be leaves all as it was
+pub refused_leaves : {S : Type 0} (g : StoredGames S) (loss : Loss) → g.loss ≡ Some loss → LeavesNoted {A = Unit {0}} (Err (loss_told loss)) g g
+refused_leaves g OfStore is = is
+refused_leaves g OfMemory is = (is, refl)
 
 pub is_empty_list : (len : ℕ) (entries : List Entry) → len ≡ length entries → (len == 0) ≡ true → entries ≡ []
 is_empty_list len entries of is = nil_from_length entries (sym of ∙ eqb-true len 0 is)
@@ -132,20 +146,20 @@ kept_by_commit path g (Ok x) events (LosesStore may why two) = absurd (let wrong
 
 -- what is noted is committed, or that fails
 pub commits_noted : {T P F K S L : Type 0} (o : Outside T P F K S L) (old new : StoredGames S) (told : Result (Unit {0}) Uncommitted) (events : List Event) → o.store_path new.store ≡ o.store_path old.store → new.folder ≡ old.folder
-    → OnErr told ((stamp bytes : List ℕ) → HasNoted old stamp bytes → HasNoted new stamp bytes) → CommitsNoted (o.store_path old.store) old told events → CommitsGames (store_games_facts o) old new told events
-commits_noted o old new told events path folder left c = record {
+    → OnErr told ((stamp bytes : List ℕ) → HasNoted old stamp bytes → HasNoted new stamp bytes) → LeavesNoted told old new → CommitsNoted (o.store_path old.store) old told events → CommitsGames (store_games_facts o) old new told events
+commits_noted o old new told events path folder left leaves c = record {
   still = record {
     quiet = committing_sends_nothing (o.store_path old.store) old told events c;
     place = ap (λ (f : List ℕ). record { folder = f; store_path = o.store_path new.store }) folder ∙ ap (λ (p : List ℕ). record { folder = old.folder; store_path = p }) path;
   };
-  done = by told c;
+  done = by told c leaves;
   kept = kept_by_commit (o.store_path old.store) old told events c;
   left = left;
 }
   where
-    by : (r : Result (Unit {0}) Uncommitted) → CommitsNoted (o.store_path old.store) old r events → CommitsNoted (o.store_path old.store) old (without_value r) events
-    by (Ok x) h = h
-    by (Err why) h = h
+    by : (r : Result (Unit {0}) Uncommitted) → CommitsNoted (o.store_path old.store) old r events → LeavesNoted r old new → CommitsNoted (o.store_path old.store) old (without_value r) events × LeavesNoted (without_value r) old new
+    by (Ok x) h l = (h, l)
+    by (Err why) h l = (h, l)
 
 -- ---- how a record is taken
 
@@ -170,7 +184,7 @@ module _ {T P F K S L : Type 0} (o : Outside T P F K S L) (g : StoredGames S) (s
   takes_stored result events taken ok = record {
     still = record { quiet = taking_sends_nothing (o.store_path g.store) g stamp (kept_of result) events taken; place = refl };
     noted = λ s b n. n;
-    taken = taken;
+    taken = (taken, refl);
     ok = by_result result taken ok;
   }
     where

@@ -45,7 +45,7 @@ folder_games_facts = record {
   places = λ folder stamp. InFile (kept_path folder stamp);
   noted = λ g stamp bytes. ⊥;
   finds = FindsInFolder;
-  takes = λ g stamp. TakesFromFile (kept_path g.folder.now stamp);
-  keeps = λ folder stamp bytes done events. events ≡ puts_in_file (kept_path folder stamp) bytes done;
-  commits = λ g told events. (told ≡ Ok tt) × (events ≡ []);
+  takes = λ g stamp result events new. TakesFromFile (kept_path g.folder.now stamp) result events × (new ≡ g);
+  keeps = λ g stamp bytes done events new. (events ≡ puts_in_file (kept_path g.folder.now stamp) bytes done) × (new ≡ g);
+  commits = λ g told events new. (told ≡ Ok tt) × (events ≡ []) × (new ≡ g);
 }

@@ -22,12 +22,12 @@ pub record GamesFacts (G : Type 0) : Type 1 where
   pub noted : G → Held
   -- by these events the game with this stamp is looked for, with what comes of it
   pub finds : Place → List ℕ → Result GameConfig OpenGameError → List Event → Type 0
-  -- by these its record is taken: what is kept of it by then, or why it can't be had
-  pub takes : G → List ℕ → Result (Option (List ℕ)) OpenGameError → List Event → Type 0
+  -- by these its record is taken: what is kept of it by then, or why it can't be had; and this is known then
+  pub takes : G → List ℕ → Result (Option (List ℕ)) OpenGameError → List Event → G → Type 0
   -- by these bytes are kept of it, or that fails
-  pub keeps : Place → List ℕ → List ℕ → Bool → List Event → Type 0
+  pub keeps : G → List ℕ → List ℕ → Bool → List Event → G → Type 0
   -- by these what was noted is committed, or isn't for this reason
-  pub commits : G → Result (Unit {0}) Uncommitted → List Event → Type 0
+  pub commits : G → Result (Unit {0}) Uncommitted → List Event → G → Type 0
 
 -- no datagram is sent
 abbrev pub SendsNothing : List Event → Type 0
@@ -81,7 +81,7 @@ module _ {G : Type 0} (facts : GamesFacts G) where
   pub record TakesGame {T P F K S L : Type 0} (o : Outside T P F K S L) (old new : G) (stamp : List ℕ) (result : Result (KeptGame F) OpenGameError) (events : List Event) : Type 0 where
     pub still : IsQuiet old new events
     pub noted : StaysNoted old new
-    pub taken : facts.takes old stamp (kept_of result) events
+    pub taken : facts.takes old stamp (kept_of result) events new
     pub ok : IfOk result (IsTaken o new stamp events)
 
   -- what a game has to put is kept, or that fails
@@ -91,13 +91,13 @@ module _ {G : Type 0} (facts : GamesFacts G) where
     pub of : after.stamp ≡ before.stamp
     pub within : IsKeptIn o (facts.places (facts.place new) after.stamp) after.file
     pub draft : after.draft ≡ settled before.draft
-    pub none : before.draft.to_put ≡ None → (events ≡ []) × IsOk result
-    pub some : (bytes : List ℕ) → before.draft.to_put ≡ Some bytes → facts.keeps (facts.place old) before.stamp bytes (is_done result) events
+    pub none : before.draft.to_put ≡ None → (events ≡ []) × (new ≡ old) × IsOk result
+    pub some : (bytes : List ℕ) → before.draft.to_put ≡ Some bytes → facts.keeps old before.stamp bytes (is_done result) events new
     pub known : (bytes : List ℕ) → before.draft.to_put ≡ Some bytes → OnOk result (known new events before.stamp bytes)
 
   -- what was noted is committed, or that fails; then it stays noted, and nothing is announced
   pub record CommitsGames {A : Type 0} (old new : G) (result : Result A Uncommitted) (events : List Event) : Type 0 where
     pub still : IsQuiet old new events
-    pub done : facts.commits old (without_value result) events
+    pub done : facts.commits old (without_value result) events new
     pub kept : OnOk result ((stamp bytes : List ℕ) → facts.noted old stamp bytes → WasKept (facts.places (facts.place old) stamp) events stamp bytes)
     pub left : OnErr result (StaysNoted old new)

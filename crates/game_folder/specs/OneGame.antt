@@ -1,5 +1,5 @@
 -- One game, whose record is kept in a file (this project's own).
-use Rattle.std.specs.Prelude.{◌≡◌, ◌≢◌, ℕ, Bool, true, cond, List, [], Result, Ok, Err}
+use Rattle.std.specs.Prelude.{◌≡◌, ◌≢◌, ◌||◌, ℕ, Bool, true, not, cond, List, [], Result, Ok, Err}
 use Rattle.arbiter_server.specs.GameFiles.{GameContents, game_as_told}
 use Rattle.arbiter_server.specs.declared.fault.OpenGameError.{OpenGameError}
 use Rattle.arbiter_server.specs.declared.fault.OpenGameError.TheVariants as unopened
@@ -33,7 +33,7 @@ one_game_facts = record {
   places = λ at. one_file at.path;
   noted = λ g stamp bytes. g.is_lost ≡ true;
   finds = λ at stamp result events. FindsByStamp at stamp result × (events ≡ []);
-  takes = λ g stamp. TakesFromFile g.at.path;
-  keeps = λ at stamp bytes done events. events ≡ puts_in_file at.path bytes done;
-  commits = λ g told events. (told ≡ cond g.is_lost (Err uncommitted.StoreLost) (Ok tt)) × (events ≡ []);
+  takes = λ g stamp result events new. TakesFromFile g.at.path result events × (new ≡ g);
+  keeps = λ g stamp bytes done events new. (events ≡ puts_in_file g.at.path bytes done) × (new ≡ record g { is_lost = g.is_lost || not done });
+  commits = λ g told events new. (told ≡ cond g.is_lost (Err uncommitted.StoreLost) (Ok tt)) × (events ≡ []) × (new ≡ g);
 }

@@ -1,5 +1,5 @@
 -- Games whose files are in a folder, and whose records are in one store (this project's own).
-use Rattle.std.specs.Prelude.{◌≡◌, ◌≢◌, ◌⊎◌, ◌++◌, ℕ, true, false, List, [], ◌∷◌, Option, Some, None, Result, Ok, Err, IfOk, IsSome, OnErr, OnOk, codes, if◌then◌else◌, length, map, nat_lt, option_map}
+use Rattle.std.specs.Prelude.{◌≡◌, ◌≢◌, ◌⊎◌, ◌++◌, ℕ, Bool, true, false, List, [], ◌∷◌, Option, Some, None, Result, Ok, Err, IfOk, IsSome, OnErr, OnOk, codes, if◌then◌else◌, length, map, nat_lt, option_map}
 use Rattle.std.specs.List.{Contains}
 use Rattle.arbiter_server.specs.declared.fault.OpenGameError.{OpenGameError}
 use Rattle.arbiter_server.specs.declared.fault.OpenGameError.TheVariants as unopened
@@ -9,7 +9,7 @@ use Rattle.move_msg.specs.Records.{SpellsRecord}
 use Rattle.move_msg.specs.declared.record_bytes.Record.{Record}
 use Rattle.system_io.specs.Records.{AreSame, IsSettled, StoredRecord, records_of, with_all}
 use Rattle.system_io.specs.declared.record_store.Entry.{Entry}
-use Rattle.timeline.specs.Events.{Committed, Event, Noted, RecordSought, stamped}
+use Rattle.timeline.specs.Events.{Committed, Event, Noted, RecordSought, is_done, stamped}
 use Rattle.timeline.specs.Outsides.{Outside}
 use Rattle.game_folder.specs.FolderGames.{FindsInFolder}
 use Rattle.game_folder.specs.Holdings.{GamesFacts, kept_of}
@@ -56,12 +56,16 @@ pub record IsEntryFor (stamp bytes : List ℕ) (e : Entry) : Type 0 where
   pub bytes_are : e.record.items ≡ bytes
   pub count : IsCountOf bytes e.count
 
--- what a game had to put is noted behind all else; where memory for that was refused, no more can be committed
+-- bytes of a game are noted behind all else; where memory for that was refused, no more can be committed
+abbrev pub NotesBytes : {S : Type 0} → StoredGames S → List ℕ → List ℕ → Bool → StoredGames S → Type 0
+NotesBytes old stamp bytes true new = (e : Entry) × IsEntryFor stamp bytes e × (new ≡ record old { noted = old.noted ++ e ∷ [] })
+NotesBytes old stamp bytes false new = new ≡ record old { loss = Some OfMemory }
+
+-- so it is of what a game had to put, if anything
 abbrev pub Notes : {S A E : Type 0} → StoredGames S → List ℕ → Option (List ℕ) → Result A E → StoredGames S → Type 0
 Notes old stamp None (Ok a) new = new ≡ old
 Notes old stamp None (Err e) new = ⊥
-Notes old stamp (Some bytes) (Ok a) new = (e : Entry) × IsEntryFor stamp bytes e × (new ≡ record old { noted = old.noted ++ e ∷ [] })
-Notes old stamp (Some bytes) (Err e) new = new ≡ record old { loss = Some OfMemory }
+Notes old stamp (Some bytes) result new = NotesBytes old stamp bytes (is_done result) new
 
 -- ---- how a record is taken
 
@@ -144,7 +148,7 @@ store_games_facts o = record {
   places = λ at stamp. InStore at.store_path;
   noted = HasNoted;
   finds = λ at. FindsInFolder at.folder;
-  takes = λ g. TakesFromStore (o.store_path g.store) g;
-  keeps = λ at stamp bytes done events. events ≡ [];
-  commits = λ g. CommitsNoted (o.store_path g.store) g;
+  takes = λ g stamp result events new. TakesFromStore (o.store_path g.store) g stamp result events × (new ≡ g);
+  keeps = λ g stamp bytes done events new. (events ≡ []) × NotesBytes g stamp bytes done new;
+  commits = λ g told events new. CommitsNoted (o.store_path g.store) g told events × LeavesNoted told g new;
 }

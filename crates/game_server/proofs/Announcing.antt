@@ -1,13 +1,13 @@
 -- What an answer announces is what is then recorded, and kept by its draft.
-use Rattle.std.proofs.Common.{◌≡◌, ◌⊎◌, inl, inr, ℕ, Bool, true, false, cond, List, Option, Some, None, refl, sym, ap, subst, ◌∙◌}
+use Rattle.std.proofs.Common.{◌≡◌, ◌⊎◌, inl, inr, ℕ, List, Some, sym, ap, subst}
 use Rattle.std.specs.Prelude.{Result, Ok, Err}
-use Rattle.arbiter_core.specs.Answering.{Answer, Puts, Refuses, Sends, answer_heard}
-use Rattle.arbiter_core.specs.Delivers.{Lands, Moment, PutsOnce, ReturnsAnswer, Told, Unchanged, answer_of, with_record, with_window}
+use Rattle.arbiter_core.specs.Answering.{Answer, Puts, Refuses, Sends}
+use Rattle.arbiter_core.specs.Delivers.{Lands, Moment, PutsOnce, ReturnsAnswer, Told, Unchanged, answer_of, with_window}
 use Rattle.arbiter_core.specs.Recording.{Recorded, ReorderBuffer}
 use Rattle.arbiter_core.specs.Setups.{rules_at}
 use Rattle.arbiter_core.specs.Views.{View}
 use Rattle.arbiter_core.specs.declared.fault.DeliverFault.{DeliverFault}
-use Rattle.arbiter_core.specs.declared.fault.DeliverFault.TheVariants.{Down, OutOfMemory}
+use Rattle.arbiter_core.specs.declared.fault.DeliverFault.TheVariants.{OutOfMemory}
 use Rattle.arbiter_core.specs.declared.keeper.Keep.{Keep}
 use Rattle.arbiter_core.specs.declared.keeper.Keep.TheVariants.{Good}
 use Rattle.move_msg.specs.declared.message.Message.{Message}

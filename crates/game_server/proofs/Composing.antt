@@ -1,24 +1,22 @@
 -- A game is looked for, its record is taken, and it is opened over that.
-use Rattle.std.proofs.Common.{◌≡◌, ◌⊎◌, inl, inr, ◌++◌, ◌∷◌, [], ◌∙◌, ℕ, Bool, true, false, List, Option, Some, None, refl, sym, ap, subst}
-use Rattle.std.specs.Prelude.{Result, Ok, Err, IfOk}
+use Rattle.std.proofs.Common.{◌≡◌, inl, inr, ◌++◌, [], ℕ, true, false, List, refl, sym, ap, subst}
+use Rattle.std.specs.Prelude.{Result, Ok, Err}
 use Rattle.std.proofs.lemmas.Result.{IfOk-weaker}
-use Rattle.arbiter_core.specs.Delivers.{Moment}
 use Rattle.arbiter_server.specs.Acts.{opens_game}
-use Rattle.arbiter_server.specs.Games.{IsGameOf, setup_of}
+use Rattle.arbiter_server.specs.Games.{setup_of}
 use Rattle.arbiter_server.specs.declared.fault.OpenGameError.{OpenGameError}
 use Rattle.arbiter_server.specs.declared.fault.OpenGameError.TheVariants as unopened
 use Rattle.arbiter_server.specs.declared.games.GameConfig.{GameConfig}
 use Rattle.move_msg.specs.Messages.{stamp_in}
 use Rattle.move_msg.specs.declared.message.Message.{Message}
 use Rattle.timeline.specs.Events.{Event}
-use Rattle.timeline.specs.Outsides.{Adds, AddsSome, Outside}
+use Rattle.timeline.specs.Outsides.{AddsSome, Outside}
 use Rattle.timeline.proofs.EventLaws.{adds_more, adds_none}
 use Rattle.game_folder.specs.Drafts.{DraftView}
-use Rattle.game_server.specs.Fates.{IsFound, IsOther, NotFound, OpensFor, OpensNone, OpensSeat, TakesAndOpens, TakesNone, TakesOne}
-use Rattle.game_folder.specs.Holdings.{GamesFacts, IsQuiet, StaysNoted, TakesGame}
-use Rattle.game_server.specs.Fates.{found_draft}
-use Rattle.game_server.specs.Seats.{IsKnownSeat, IsSeat, SameCommon, common_in}
-use Rattle.game_server.specs.Inside.Seating.{IsKnownThen, KnowsSeat, LooksUp, OpensForMessage, OpensOverKept, OpensTaken, seated_as}
+use Rattle.game_server.specs.Fates.{IsFound, IsOther, NotFound, OpensNone, OpensSeat, TakesNone, TakesOne}
+use Rattle.game_folder.specs.Holdings.{GamesFacts, TakesGame}
+use Rattle.game_server.specs.Seats.{common_in}
+use Rattle.game_server.specs.Inside.Seating.{IsKnownThen, LooksUp, OpensForMessage, OpensOverKept, OpensTaken, seated_as}
 use Rattle.game_folder.specs.declared.games.KeptGame.{KeptGame}
 use Rattle.game_server.specs.declared.seat.Seat.{Seat}
 use Rattle.game_server.specs.declared.server.Shared.{Shared}
@@ -36,9 +34,8 @@ module _ {T P F K S L G : Type 0} (o : Outside T P F K S L) (facts : GamesFacts 
     same = record { config = over.same.config; tables = over.same.tables };
     still = quiet_then facts old.games g new.games first rest takes.still over.still;
     noted = noted_then facts old.games g new.games takes.noted over.noted;
-    opens = TakesOne first rest kept.draft.kept takes.taken
-        (subst (λ (d : DraftView). OpensSeat facts (facts.place old.games) kept.stamp (setup_of (common_in old) game.name.items game.start game.delay) d rest (seated_as old.tables result)) (clean_draft kept.draft takes.ok.clean)
-        (subst (λ (p : facts.Place). OpensSeat facts p kept.stamp (setup_of (common_in old) game.name.items game.start game.delay) kept.draft rest (seated_as old.tables result)) takes.still.place over.opens)) refl;
+    opens = TakesOne first rest kept.draft.kept g takes.taken
+        (subst (λ (d : DraftView). OpensSeat facts g kept.stamp (setup_of (common_in old) game.name.items game.start game.delay) d rest (seated_as old.tables result) new.games) (clean_draft kept.draft takes.ok.clean) over.opens) refl;
     ok = over.ok;
     knows = IfOk-weaker result _ _ (λ seat knows. knows first takes.ok.known) over.knows;
   }
@@ -90,8 +87,8 @@ module _ {T P F K S L G : Type 0} (o : Outside T P F K S L) (facts : GamesFacts 
           still = record { quiet = p.2.quiet; place = refl };
           noted = λ stamp bytes n. n;
           opens = elim p.2.is [
-            | inl lacks ↦ NotFound why opens lacks refl
-            | inr other ↦ IsOther other.0 opens other.1 other.2 (ap Err other.3)
+            | inl lacks ↦ NotFound why opens lacks refl refl
+            | inr other ↦ IsOther other.0 opens other.1 other.2 refl (ap Err other.3)
           ];
           ok = tt;
           knows = tt;
@@ -104,5 +101,5 @@ module _ {T P F K S L G : Type 0} (o : Outside T P F K S L) (facts : GamesFacts 
       (subst (λ (n : Shared G). AddsSome o a a (OpensForMessage o facts old n m (Err unopened.NotOpen))) (sym same) (
         [],
         adds_none o a,
-        record { same = record { config = refl; tables = refl }; still = quiet_nothing facts old.games; noted = λ stamp bytes n. n; opens = OpensNone none refl refl; ok = tt; knows = tt },
+        record { same = record { config = refl; tables = refl }; still = quiet_nothing facts old.games; noted = λ stamp bytes n. n; opens = OpensNone none refl refl refl; ok = tt; knows = tt },
       ))

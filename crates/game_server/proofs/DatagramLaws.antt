@@ -21,7 +21,7 @@ use Rattle.timeline.specs.Outsides.{AddsSome, Outside}
 use Rattle.timeline.proofs.EventLaws.{adds_none}
 use Rattle.game_server.specs.Datagrams.{HearsDatagram, IsLeftOpen, IsNotOf, was_open}
 use Rattle.game_folder.specs.Drafts.{DraftView, settled}
-use Rattle.game_server.specs.Fates.{Answered, AnswersBy, Fate, GoesTo, IsAnswered, IsUnopened, IsUnread, KeepsAnswer, Unopened, Unread, fate_leaves, is_lost_at, is_unput}
+use Rattle.game_server.specs.Fates.{Answered, AnswersBy, Fate, GoesTo, IsAnswered, IsUnopened, IsUnread, Unopened, Unread, fate_leaves, is_lost_at, is_unput}
 use Rattle.game_folder.specs.Holdings.{GamesFacts, IsKeptIn, IsQuiet, StaysNoted}
 use Rattle.game_server.specs.Seats.{AreKnown, AreSeats, IsKnownSeat, IsSeat, common, open_at, seat_moment}
 use Rattle.game_server.specs.Inside.Seating.{AnswersFrom, Brings, IsSeatedNow}
@@ -75,11 +75,11 @@ module _ {T P F K S L G : Type 0} (o : Outside T P F K S L) (facts : GamesFacts 
   -- behind a game that was brought all can answer
   pub brought_seats : (mid : Server G F) (events : List Event) → Brings o facts old mid m (Ok tt) events → AreSeats o facts mid
   brought_seats mid events b = seats_now o facts old mid (stamp_in m) b.same.tables b.still.place b.noted b.is.others seats
-      (subst (λ (k : Option (Seat F)). IfSome k (IsSeat o facts mid.shared.games mid.shared.tables (stamp_in m))) (sym b.is.open)
+      (subst (λ (k : Option (Seat F)). IfSome k (IsSeat o facts mid.shared.games mid.shared.tables (stamp_in m))) (sym b.is.there)
       (subst (λ (set : Holding). IsSeat o facts mid.shared.games set (stamp_in m) b.is.seat) (sym b.same.tables) b.is.seated))
 
   pub brought_open : (mid : Server G F) (events : List Event) → Brings o facts old mid m (Ok tt) events → IsSome (open_at mid (stamp_in m))
-  brought_open mid events b = subst (λ (k : Option (Seat F)). IsSome k) (sym b.is.open) tt
+  brought_open mid events b = subst (λ (k : Option (Seat F)). IsSome k) (sym b.is.there) refl
 
   -- its game answered
   module _ (mid new : Server G F) (reply : Reply) (first rest : List Event) (b : Brings o facts old mid m (Ok tt) first) (a : AnswersFrom o facts mid new m reply rest) where
@@ -97,7 +97,7 @@ module _ {T P F K S L G : Type 0} (o : Outside T P F K S L) (facts : GamesFacts 
 
     -- the game that answers is the one that was brought
     one_seat : b.is.seat ≡ a.seat
-    one_seat = let x = b.is.open in let y = a.open in cc
+    one_seat = let x = b.is.there in let y = a.there in cc
 
     abbrev left : Moment DraftView
     left = moment a.after.arbiter (settled a.after.keeper)
@@ -123,10 +123,9 @@ module _ {T P F K S L G : Type 0} (o : Outside T P F K S L) (facts : GamesFacts 
     own_left false None h = absurd h
     own_left false (Some now) h = ap Some (subst (λ (set : Holding). seat_moment set now ≡ left) (sym a.same.tables) h.1)
 
-    answers_as : AnswersBy facts old.shared.games (stamp_in m) (seat_moment old.shared.tables b.is.seat) m a.told a.after a.is_kept rest
-    answers_as = subst (λ (seat : Seat F). AnswersBy facts old.shared.games (stamp_in m) (seat_moment old.shared.tables seat) m a.told a.after a.is_kept rest) (sym one_seat)
-        (subst (λ (set : Holding). AnswersBy facts old.shared.games (stamp_in m) (seat_moment set a.seat) m a.told a.after a.is_kept rest) b.same.tables
-        (record { answers = a.answers.answers; kept = subst (λ (p : facts.Place). KeepsAnswer facts p (stamp_in m) a.told a.after.keeper.to_put a.is_kept rest) b.still.place a.answers.kept }))
+    answers_as : AnswersBy facts mid.shared.games (stamp_in m) (seat_moment old.shared.tables b.is.seat) m a.told a.after a.is_kept rest new.shared.games
+    answers_as = subst (λ (seat : Seat F). AnswersBy facts mid.shared.games (stamp_in m) (seat_moment old.shared.tables seat) m a.told a.after a.is_kept rest new.shared.games) (sym one_seat)
+        (subst (λ (set : Holding). AnswersBy facts mid.shared.games (stamp_in m) (seat_moment set a.seat) m a.told a.after a.is_kept rest new.shared.games) b.same.tables a.answers)
 
     abbrev others_used : List (List ℕ) → List (List ℕ)
     others_used l = cond lost l (stamp_in m ∷ l)
@@ -138,8 +137,8 @@ module _ {T P F K S L G : Type 0} (o : Outside T P F K S L) (facts : GamesFacts 
       still = all_still;
       noted = all_noted;
       fate = Answered (stamp_in m) (exchange datagram a.told a.after) a.is_kept;
-      goes = subst (λ (x : Result Message MessageFault). GoesTo facts (common old) old.shared.games datagram (was_open old x) (first ++ rest) (Answered (stamp_in m) (exchange datagram a.told a.after) a.is_kept)) (sym is)
-          (IsAnswered m first rest (seat_moment old.shared.tables b.is.seat) a.after a.told a.is_kept is b.is.has answers_as refl refl);
+      goes = subst (λ (x : Result Message MessageFault). GoesTo facts (common old) old.shared.games datagram (was_open old x) (first ++ rest) (Answered (stamp_in m) (exchange datagram a.told a.after) a.is_kept) new.shared.games) (sym is)
+          (IsAnswered m first rest (seat_moment old.shared.tables b.is.seat) a.after a.told a.is_kept mid.shared.games is b.is.has answers_as refl refl);
       is = a.is datagram;
       own = subst (λ (x : Result Message MessageFault). was_open new x ≡ fate_leaves (Answered (stamp_in m) (exchange datagram a.told a.after) a.is_kept)) (sym is) (own_left lost (open_at new (stamp_in m)) a.own);
       used = a.used ∙ ap others_used b.is.used;
@@ -174,7 +173,7 @@ module _ {T P F K S L G : Type 0} (o : Outside T P F K S L) (facts : GamesFacts 
       still = b.still;
       noted = b.noted;
       fate = Unopened (stamp_in m) why;
-      goes = subst (λ (x : Result Message MessageFault). GoesTo facts (common old) old.shared.games datagram (was_open old x) events (Unopened (stamp_in m) why)) (sym is) (IsUnopened m why is was_none b.is.opens refl);
+      goes = subst (λ (x : Result Message MessageFault). GoesTo facts (common old) old.shared.games datagram (was_open old x) events (Unopened (stamp_in m) why) new.shared.games) (sym is) (IsUnopened m why is was_none b.is.opens refl);
       is = record { outputs = nothing; line = ap line_words line; told = line };
       own = subst (λ (x : Result Message MessageFault). was_open new x ≡ None) (sym is) (ap (option_map (seat_moment new.shared.tables)) gone);
       used = ap (λ (l : LruCache (List ℕ) (Seat F)). keys_of l.entries) b.is.seats;
@@ -196,7 +195,7 @@ heard_unread o facts server datagram fault reply t seats is nothing line = (
     still = quiet_nothing facts server.shared.games;
     noted = λ stamp bytes n. n;
     fate = Unread fault;
-    goes = IsUnread fault is refl refl;
+    goes = IsUnread fault is refl refl refl;
     is = record { outputs = nothing; line = ap line_words line; told = line };
     own = subst (λ (x : Result Message MessageFault). was_open server x ≡ None) (sym is) refl;
     used = refl;
@@ -217,15 +216,15 @@ said_open {F = F} {G = G} o facts old new m datagram reply events is h = by h.fa
 
     some_there : (k : Option (Seat F)) (at : Moment DraftView) → option_map (seat_moment new.shared.tables) k ≡ Some at → IsSome k
     some_there None at e = absurd cc
-    some_there (Some seat) at e = tt
+    some_there (Some seat) at e = refl
 
     on_line : (l : Line) (r : Result (Unit {0}) OpenGameError) → opened_by l ≡ r → OnOk r (IsSome (open_at new (stamp_in m))) → OnOk (opened_by l) (IsSome (open_at new (stamp_in m)))
     on_line l r e p = subst (λ (x : Result (Unit {0}) OpenGameError). OnOk x (IsSome (open_at new (stamp_in m)))) (sym e) p
 
-    not_unread : (fault : MessageFault) → GoesTo facts (common old) old.shared.games datagram (was_open old (heard_in datagram)) events (Unread fault) → ⊥
-    not_unread fault (IsUnread f none e u) = let wrong : Ok m ≡ Err f = sym is ∙ none in cc
+    not_unread : (fault : MessageFault) → GoesTo facts (common old) old.shared.games datagram (was_open old (heard_in datagram)) events (Unread fault) new.shared.games → ⊥
+    not_unread fault (IsUnread f none e s u) = let wrong : Ok m ≡ Err f = sym is ∙ none in cc
     not_unread fault (IsUnopened n why e none opens u) = cc
-    not_unread fault (IsAnswered n first rest at after told kept e has answers are u) = cc
+    not_unread fault (IsAnswered n first rest at after told kept mid e has answers are u) = cc
 
     answered : (report : DatagramReport) (b : Bool) (at : Moment DraftView) → (b ≡ true → report ≡ KeeperLost) → option_map (seat_moment new.shared.tables) (open_at new (stamp_in m)) ≡ cond b None (Some at) → OnOk (opened_as report) (IsSome (open_at new (stamp_in m)))
     answered report true at gone e = subst (λ (x : DatagramReport). OnOk (opened_as x) (IsSome (open_at new (stamp_in m)))) (sym (gone refl)) tt
@@ -235,7 +234,7 @@ said_open {F = F} {G = G} o facts old new m datagram reply events is h = by h.fa
         on_any (Ok x) p = p
         on_any (Err why) p = tt
 
-    by : (fate : Fate) → GoesTo facts (common old) old.shared.games datagram (was_open old (heard_in datagram)) events fate → IsLineOf fate reply.line → option_map (seat_moment new.shared.tables) (open_at new (stamp_in m)) ≡ fate_leaves fate → OnOk (opened_by reply.line) (IsSome (open_at new (stamp_in m)))
+    by : (fate : Fate) → GoesTo facts (common old) old.shared.games datagram (was_open old (heard_in datagram)) events fate new.shared.games → IsLineOf fate reply.line → option_map (seat_moment new.shared.tables) (open_at new (stamp_in m)) ≡ fate_leaves fate → OnOk (opened_by reply.line) (IsSome (open_at new (stamp_in m)))
     by (Unread fault) goes told e = absurd (not_unread fault goes)
     by (Unopened stamp why) goes told e = on_line reply.line (Err why) (ap opened_by told) tt
     by (Answered stamp x is_kept) goes told e = on_line reply.line (opened_as told.0) (ap opened_by told.1) (answered told.0 (is_lost_at x is_kept) (moment x.after.arbiter (settled x.after.keeper)) told.2 e)

@@ -1,12 +1,11 @@
 -- A game that is open answers a message.
-use Rattle.std.proofs.Common.{◌≡◌, ◌⊎◌, inl, inr, ◌++◌, ◌∷◌, [], ◌∙◌, ℕ, Bool, true, false, cond, List, Option, Some, None, refl, sym, ap, subst, append-nil}
-use Rattle.std.specs.Prelude.{Result, Ok, Err}
+use Rattle.std.proofs.Common.{◌≡◌, ◌++◌, ◌∷◌, [], ◌∙◌, ℕ, Bool, true, false, cond, List, Option, Some, None, refl, sym, ap, subst}
+use Rattle.std.specs.Prelude.{Ok}
 use Rattle.std.specs.List.{AllByRecursion}
-use Rattle.arbiter_core.specs.Delivers.{Exchange, IsKept, Moment, Told, exchange, moment}
+use Rattle.arbiter_core.specs.Delivers.{Exchange, IsKept, Told, moment}
 use Rattle.arbiter_core.specs.Recording.{Recorded}
-use Rattle.arbiter_core.specs.Resting.{CanWake, Rest, awake}
+use Rattle.arbiter_core.specs.Resting.{CanWake, awake}
 use Rattle.arbiter_core.specs.Views.{View}
-use Rattle.arbiter_core.specs.declared.fault.DeliverFault.{DeliverFault}
 use Rattle.arbiter_server.specs.ServedLines.{refused_keeper}
 use Rattle.arbiter_server.specs.Serving.{line_of, outputs_of}
 use Rattle.arbiter_server.specs.Told.{stamped}
@@ -23,7 +22,7 @@ use Rattle.game_folder.specs.Places.{Held}
 use Rattle.game_server.specs.Seats.{IsKnownSeat, IsSeat}
 use Rattle.game_server.specs.Replies.{AreBacked}
 use Rattle.game_server.specs.declared.seat.Seat.{Seat}
-use Rattle.game_server.proofs.Announcing.{Announces, IsDrafted}
+use Rattle.game_server.proofs.Announcing.{Announces}
 use Rattle.game_server.proofs.Backing.{HoldsRecord, backed}
 use Rattle.game_server.proofs.Saying.{AllSay}
 use Rattle.game_server.proofs.SeatLaws.{drafted_known}
@@ -46,13 +45,13 @@ all_backed held stamp r (m ∷ ms) h says = (backed held stamp r m h says.0, all
 
 -- ---- what is kept
 
-pub keeps_answer : {G : Type 0} (facts : GamesFacts G) (place : facts.Place) (stamp : List ℕ) (outputs : List Message) (to_put : Option (List ℕ)) (events : List Event) → KeptIfAny facts place stamp to_put events → KeepsAnswer facts place stamp (Ok outputs) to_put true events
-keeps_answer facts place stamp outputs None events h = h
-keeps_answer facts place stamp outputs (Some bytes) events h = h
+pub keeps_answer : {G : Type 0} (facts : GamesFacts G) (old new : G) (stamp : List ℕ) (outputs : List Message) (to_put : Option (List ℕ)) (events : List Event) → KeptIfAny facts old stamp to_put events new → KeepsAnswer facts old stamp (Ok outputs) to_put true events new
+keeps_answer facts old new stamp outputs None events h = h
+keeps_answer facts old new stamp outputs (Some bytes) events h = h
 
-pub keeps_lost : {G : Type 0} (facts : GamesFacts G) (place : facts.Place) (stamp : List ℕ) (outputs : List Message) (to_put : Option (List ℕ)) (events : List Event) (bytes : List ℕ) → to_put ≡ Some bytes → facts.keeps place stamp bytes false events → KeepsAnswer facts place stamp (Ok outputs) to_put false events
-keeps_lost facts place stamp outputs None events bytes is h = absurd cc
-keeps_lost facts place stamp outputs (Some other) events bytes is h = let same : bytes ≡ other = cc in subst (λ (b : List ℕ). facts.keeps place stamp b false events) same h
+pub keeps_lost : {G : Type 0} (facts : GamesFacts G) (old new : G) (stamp : List ℕ) (outputs : List Message) (to_put : Option (List ℕ)) (events : List Event) (bytes : List ℕ) → to_put ≡ Some bytes → facts.keeps old stamp bytes false events new → KeepsAnswer facts old stamp (Ok outputs) to_put false events new
+keeps_lost facts old new stamp outputs None events bytes is h = absurd cc
+keeps_lost facts old new stamp outputs (Some other) events bytes is h = let same : bytes ≡ other = cc in subst (λ (b : List ℕ). facts.keeps old stamp b false events new) same h
 
 -- ---- what is told
 

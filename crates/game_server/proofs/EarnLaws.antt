@@ -1,24 +1,22 @@
 -- What a server sends was earned.
-use Rattle.std.proofs.Common.{◌≡◌, ◌∙◌, ◌⊎◌, inl, inr, ℕ, Bool, true, false, ◌++◌, List, [], ◌∷◌, Option, Some, None, refl, sym, ap, subst, append_assoc, append-nil}
+use Rattle.std.proofs.Common.{◌≡◌, ◌∙◌, inl, inr, ℕ, Bool, true, false, ◌++◌, List, [], ◌∷◌, Option, Some, None, refl, sym, ap, subst, append_assoc}
 use Rattle.std.specs.Prelude.{Result, Ok, Err, IfSome}
 use Rattle.std.specs.List.{AllByRecursion, flat_map}
-use Rattle.std.specs.declared.net.socket_addr.SocketAddr.{SocketAddr}
 use Rattle.arbiter_server.specs.Told.{line_words}
 use Rattle.arbiter_server.specs.declared.fault.Uncommitted.{Uncommitted}
 use Rattle.arbiter_server.specs.declared.line.Line.{Line}
-use Rattle.move_msg.specs.Messages.{SpellsMessage, message_text}
 use Rattle.move_msg.specs.TextLines.{ended}
 use Rattle.move_msg.specs.declared.message.Message.{Message}
 use Rattle.system_io.specs.declared.output.WriteFault.{WriteFault}
 use Rattle.system_io.specs.declared.recipient.Recipient.{Recipient}
-use Rattle.timeline.specs.Events.{Came, Event, Flushed, Missed, Quiet, Refused, Sent, Wrote}
-use Rattle.timeline.specs.Outsides.{Adds, AddsSome, Outside}
+use Rattle.timeline.specs.Events.{Came, Event, Missed}
+use Rattle.timeline.specs.Outsides.{Outside}
 use Rattle.game_folder.specs.Holdings.{CommitsGames, GamesFacts, SendsNothing, StaysNoted, known}
 use Rattle.game_folder.specs.Places.{Places, WasKept, kept_by}
 use Rattle.game_server.specs.Backed.{EachEarned, IsBacked}
 use Rattle.game_server.specs.Datagrams.{HearsDatagram}
 use Rattle.game_server.specs.Orders.{AcksAreEarned, Earned, EarnsFrom}
-use Rattle.game_server.specs.Printing.{LineForm, LinesCut, TextEnd, WasCut, WasStuck, WentOut, WritesLines, after_lines, lines_out, text_events, text_out, written_text}
+use Rattle.game_server.specs.Printing.{LineForm, TextEnd, WasCut, WasStuck, WentOut, WritesLines, after_lines, lines_out, text_events, text_out, written_text}
 use Rattle.game_server.specs.Replies.{AreBacked}
 use Rattle.game_server.specs.Rounds.{Heard, HearsAll, IsFull, IsRound, IsSpelled, NoMore, ReceiveFails, Round, RoundEnd, end_events, heard_events, reply_sent, round_events, round_sent}
 use Rattle.game_server.specs.Runs.{Answers, Deed, HearsNone, InTurns, IsDeed, IsTurn, Serves, Turn, deed_events, deed_lines, run_events, turn_events, with_last}
@@ -101,7 +99,7 @@ module _ {T P F K S L G : Type 0} (o : Outside T P F K S L) (facts : GamesFacts 
   heard_so old new before [] p is = record {
     quiet = tt;
     known = subst (λ (s : Server G F). AreKnown facts s (before ++ [])) (sym is) (are_known_on facts old before [] p);
-    lasts = subst (λ (s : Server G F). Lasts facts old.shared.games s.games) (sym is) (record { place = refl; noted = λ stamp bytes n. n });
+    lasts = subst (λ (s : Server G F). Lasts facts old.shared.games s.shared.games) (sym is) (record { place = refl; noted = λ stamp bytes n. n });
     backed = tt;
   }
   heard_so old new before (h ∷ hs) p d =
@@ -115,10 +113,10 @@ module _ {T P F K S L G : Type 0} (o : Outside T P F K S L) (facts : GamesFacts 
       record {
         quiet = quiet_join own (flat_map heard_events hs) ((λ to bytes is. cc), d.1.still.quiet) rest.quiet;
         known = subst (AreKnown facts new) whole rest.known;
-        lasts = lasts_then facts old.shared.games d.0.games new.shared.games (lasts_by old d.0 h d.1) rest.lasts;
+        lasts = lasts_then facts old.shared.games d.0.shared.games new.shared.games (lasts_by old d.0 h d.1) rest.lasts;
         backed = (
           subst (λ (l : List Event). AreBacked facts new.shared.games l h.reply.outputs.items) whole
-              (backed_on facts d.0.games new.shared.games rest.lasts (before ++ own) (flat_map heard_events hs) h.reply.outputs.items (subst (λ (l : List Event). AreBacked facts d.0.games l h.reply.outputs.items) at (d.1.backed (before ++ first) came))),
+              (backed_on facts d.0.shared.games new.shared.games rest.lasts (before ++ own) (flat_map heard_events hs) h.reply.outputs.items (subst (λ (l : List Event). AreBacked facts d.0.shared.games l h.reply.outputs.items) at (d.1.backed (before ++ first) came))),
           subst (λ (l : List Event). AllByRecursion (λ x. AreBacked facts new.shared.games l x.reply.outputs.items) hs) whole rest.backed,
         );
       }
@@ -214,7 +212,7 @@ module _ {T P F K S L G : Type 0} (o : Outside T P F K S L) (facts : GamesFacts 
   deed_earned old new (Answers r) before p is = round_earned old new r before p is
   deed_earned old new HearsNone before p is =
       let now : AreKnown facts new (before ++ Missed ∷ []) = subst (λ (s : Server G F). AreKnown facts s (before ++ Missed ∷ [])) (sym is) (are_known_on facts old before (Missed ∷ []) p) in
-      record { each = ((λ dest bytes m e spells. absurd cc), tt); known = now; place = ap (λ (s : Server G F). facts.place s.games) is }
+      record { each = ((λ dest bytes m e spells. absurd cc), tt); known = now; place = ap (λ (s : Server G F). facts.place s.shared.games) is }
 
   turn_earned : (form : LineForm) (texts : List (List ℕ)) (old new : Server G F) (t : Turn) (before : List Event) → AreKnown facts old before → IsTurn o facts form texts old t new → Earned facts old new before (turn_events to t)
   turn_earned form texts old new t before p is =
@@ -232,7 +230,7 @@ module _ {T P F K S L G : Type 0} (o : Outside T P F K S L) (facts : GamesFacts 
   turns_earned form texts old new [] before p is = record {
     each = tt;
     known = subst (λ (s : Server G F). AreKnown facts s (before ++ [])) (sym is) (are_known_on facts old before [] p);
-    place = ap (λ (s : Server G F). facts.place s.games) is;
+    place = ap (λ (s : Server G F). facts.place s.shared.games) is;
   }
   turns_earned form texts old new (t ∷ ts) before p is =
       let one = turn_earned form texts old is.0 t before p is.1 in

@@ -1,9 +1,7 @@
 -- What is known of the records of games, from one moment to a later one.
-use Rattle.std.proofs.Common.{◌≡◌, ◌⊎◌, inl, inr, ◌++◌, ◌∷◌, [], ℕ, true, List, Option, Some, None, refl, sym, ap, subst, ◌∙◌, append_assoc}
-use Rattle.std.specs.List.{AllByRecursion}
-use Rattle.std.specs.declared.net.socket_addr.SocketAddr.{SocketAddr}
-use Rattle.std.proofs.lemmas.List.Elements.{Contains-append_left, Contains-append_right}
-use Rattle.timeline.specs.Events.{Event, Committed, Found, Put, RecordSought, Sent}
+use Rattle.std.proofs.Common.{◌≡◌, inl, inr, ◌++◌, ◌∷◌, [], ℕ, true, List, sym, subst}
+use Rattle.std.proofs.lemmas.List.Elements.{Contains-append_right}
+use Rattle.timeline.specs.Events.{Event, Committed}
 use Rattle.game_folder.specs.Holdings.{GamesFacts, SendsNothing, StaysNoted, known}
 use Rattle.game_folder.specs.Places.{InFile, InStore, KeptAt, WasKept}
 use Rattle.game_server.proofs.Backing.{was_kept_later}

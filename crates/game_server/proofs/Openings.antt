@@ -1,6 +1,6 @@
 -- What opening an arbiter over a draft leaves.
 use Rattle.std.proofs.Common.{◌≡◌, ◌⊎◌, inl, inr, ℕ, List, Option, Some, None, refl, ap}
-use Rattle.std.specs.Prelude.{Result, Ok, Err, IfErr, IsErr}
+use Rattle.std.specs.Prelude.{Ok, Err, IfErr, IsErr}
 use Rattle.arbiter_core.specs.Answering.{Identity}
 use Rattle.arbiter_core.specs.Opens.{IsOpening, OpenResult, Opens, OpensIfGood, OpensOver}
 use Rattle.arbiter_core.specs.Setups.{IsGood, SetupView}

@@ -1,9 +1,9 @@
 -- A port from one moment to a later one.
-use Rattle.std.proofs.Common.{◌≡◌, ◌≤◌, ◌∙◌, refl, ap, arith, List, Option}
+use Rattle.std.proofs.Common.{◌≡◌, ◌∙◌, refl, ap, arith, List, Option}
 use Rattle.std.specs.declared.net.socket_addr.SocketAddr.{SocketAddr}
 use Rattle.system_io.specs.declared.recipient.Recipient.{Recipient}
 use Rattle.timeline.specs.Outsides.{HeardNothing, PortState, SendsToSame}
-use Rattle.game_server.specs.Sending.{Address, address, address_of}
+use Rattle.game_server.specs.Sending.{address, address_of}
 
 pub sends_to_same : (p : PortState) → SendsToSame p p
 sends_to_same p = record { to = refl; faults = omega arith }

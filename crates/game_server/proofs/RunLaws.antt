@@ -1,6 +1,6 @@
 -- A round, and a run of them.
-use Rattle.std.proofs.Common.{◌≡◌, ◌∙◌, ℕ, Bool, true, false, cond, ◌+◌, ◌-◌, ◌<◌, ◌≤◌, ◌++◌, min, List, [], ◌∷◌, Option, Some, None, length, refl, sym, ap, ap₂, subst, append_assoc, append-nil, arith}
-use Rattle.std.specs.Prelude.{Result, Ok, Err, OnOk, map}
+use Rattle.std.proofs.Common.{◌≡◌, ◌∙◌, ℕ, Bool, true, false, cond, ◌+◌, ◌-◌, ◌<◌, ◌≤◌, ◌++◌, min, List, [], ◌∷◌, Some, None, length, refl, sym, ap, ap₂, subst, append_assoc, append-nil, arith}
+use Rattle.std.specs.Prelude.{Result, Ok, Err, OnOk}
 use Rattle.std.specs.List.{AllByRecursion, flat_map}
 use Rattle.std.proofs.lemmas.List.Concat.{flat_map-append}
 use Rattle.arbiter_server.specs.declared.line.Line.{Line}
@@ -15,8 +15,8 @@ use Rattle.arbiter_server.specs.declared.fault.Uncommitted.TheVariants as uncomm
 use Rattle.arbiter_server.specs.declared.line.Line.TheVariants as line
 use Rattle.timeline.specs.Events.{is_done}
 use Rattle.game_folder.specs.Holdings.{CommitsGames, GamesFacts}
-use Rattle.game_server.specs.Rounds.{Heard, HearsAll, IsFull, IsRound, IsSpelled, ReceiveFails, Round, RoundEnd, end_events, heard_events, is_loss, lines_of, reply_sent, round_events, round_sent, withheld_line}
-use Rattle.game_server.specs.Runs.{Answers, AreWithin, Deed, EndsBy, GoesOnAfter, HearsNone, InTurns, IsTurn, IsWithin, Serves, Turn, came, came_in, deed_lines, ends_run, run_events, turn_events}
+use Rattle.game_server.specs.Rounds.{Heard, HearsAll, IsRound, IsSpelled, ReceiveFails, Round, RoundEnd, end_events, heard_events, is_loss, lines_of, reply_sent, round_events, round_sent, withheld_line}
+use Rattle.game_server.specs.Runs.{Answers, AreWithin, Deed, EndsBy, GoesOnAfter, HearsNone, InTurns, IsTurn, IsWithin, Serves, Turn, came, came_in, deed_lines, run_events, turn_events}
 use Rattle.game_server.specs.Seats.{SameSeats}
 use Rattle.game_server.specs.Sending.{AllSpelled, address, sent}
 use Rattle.game_server.specs.Inside.Running.{AreHeld, AreSpelled, ConcludesRound, EndsTurn, Gathers, IsAfter, TakesTurn, WritesAll, all_sent, held_lines}
@@ -208,7 +208,7 @@ module _ {T P F K S L G : Type 0} (o : Outside T P F K S L) (facts : GamesFacts 
     pub happens : Adds o t t' (run_events to turns)
 
   pub none_served : (to : List Recipient) (server : Server G F) (lines : Lines) (t : T) → KnowsLines lines [] → form_in lines ≡ form → HasServed to server server lines lines t t 0
-  unfolding InTurns, AreWithin
+  unfolding InTurns AreWithin
   none_served to server lines t knows same = record { turns = []; count = refl; going = tt; in_turn = refl; within = tt; knows = knows; same = same; happens = adds_none o t }
 
   texts_join : (before : List (List ℕ)) (ts : List Turn) (t : Turn) → texts_after before (ts ++ t ∷ []) ≡ after_lines (texts_after before ts) (deed_lines t.deed)

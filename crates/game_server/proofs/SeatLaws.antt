@@ -1,10 +1,7 @@
 -- A game that is opened among many, and answers.
-use Rattle.std.proofs.Common.{◌≡◌, ◌⊎◌, inl, inr, ◌++◌, ◌∷◌, [], ◌∙◌, ℕ, Bool, true, false, cond, List, Option, Some, None, refl, sym, ap, subst, append-nil}
-use Rattle.std.specs.Prelude.{Result, Ok, Err, IfOk, IsOk, OnOk}
-use Rattle.std.specs.List.{AllByRecursion}
+use Rattle.std.proofs.Common.{◌≡◌, inl, inr, ◌++◌, [], ◌∙◌, ℕ, true, false, List, Option, Some, None, refl, sym, ap, subst}
+use Rattle.std.specs.Prelude.{Result, Ok, Err, IsOk}
 use Rattle.arbiter_core.specs.Answering.{Identity}
-use Rattle.arbiter_core.specs.Delivers.{IsKept, IsSpelled, Moment, Told, moment}
-use Rattle.arbiter_core.specs.Keeping.{KeeperFacts}
 use Rattle.arbiter_core.specs.Opens.{FirstLands, IsOpening, Opens, OpensOver, first_record, running}
 use Rattle.arbiter_core.specs.Setups.{IsIdentity, SetupView, rules_at}
 use Rattle.arbiter_core.specs.Views.{View}
@@ -15,14 +12,14 @@ use Rattle.arbiter_server.specs.Games.{CommonView, IsGameOf, setup_of}
 use Rattle.board_core.specs.declared.parts.Parts.{Parts}
 use Rattle.move_msg.specs.declared.message.Message.{Message}
 use Rattle.timeline.specs.Events.{Event}
-use Rattle.game_folder.specs.Drafts.{DraftView, draft_facts, settled}
+use Rattle.game_folder.specs.Drafts.{DraftView, draft_facts}
 use Rattle.timeline.specs.Outsides.{Outside}
 use Rattle.game_server.specs.Fates.{KeptIfAny, found_draft, is_unput}
 use Rattle.game_folder.specs.Holdings.{GamesFacts, IsKnown, IsQuiet, KeepsGame, StaysNoted, known}
 use Rattle.game_folder.specs.declared.games.KeptGame.{KeptGame}
 use Rattle.game_server.proofs.Announcing.{IsDrafted}
 use Rattle.game_server.proofs.Knowing.{known_after, known_on, quiet_join}
-use Rattle.game_server.proofs.Openings.{IsBegun, begun}
+use Rattle.game_server.proofs.Openings.{IsBegun}
 
 err_not_ok : {A E : Type 0} (r : Result A E) (e : E) → IsOk r → r ≡ Err e → ⊥
 err_not_ok (Ok x) e h is = cc
@@ -88,22 +85,22 @@ abbrev pub failed : (A E : Type 0) → E → Result A E
 failed A E e = Err e
 
 module _ {T P F K S L G A E : Type 0} (o : Outside T P F K S L) (facts : GamesFacts G) (old new : G) (before after : KeptGame F) where
-  pub kept_if_any : (x : A) (events : List Event) → KeepsGame facts o old new before after (okay A E x) events → KeptIfAny facts (facts.place old) before.stamp before.draft.to_put events
+  pub kept_if_any : (x : A) (events : List Event) → KeepsGame facts o old new before after (okay A E x) events → KeptIfAny facts old before.stamp before.draft.to_put events new
   kept_if_any x events h = by before.draft.to_put refl
     where
-      by : (k : Option (List ℕ)) → before.draft.to_put ≡ k → KeptIfAny facts (facts.place old) before.stamp k events
-      by None is = (h.none is).0
+      by : (k : Option (List ℕ)) → before.draft.to_put ≡ k → KeptIfAny facts old before.stamp k events new
+      by None is = let n = h.none is in (n.0, n.1)
       by (Some bytes) is = h.some bytes is
 
   pub kept_known : (x : A) (events : List Event) → KeepsGame facts o old new before after (okay A E x) events → (bytes : List ℕ) → before.draft.to_put ≡ Some bytes → known facts new events before.stamp bytes
   kept_known x events h bytes is = h.known bytes is
 
   -- it had something to put, and that wasn't kept
-  pub unkept_some : (e : E) (events : List Event) → KeepsGame facts o old new before after (failed A E e) events → (bytes : List ℕ) × (before.draft.to_put ≡ Some bytes) × facts.keeps (facts.place old) before.stamp bytes false events
+  pub unkept_some : (e : E) (events : List Event) → KeepsGame facts o old new before after (failed A E e) events → (bytes : List ℕ) × (before.draft.to_put ≡ Some bytes) × facts.keeps old before.stamp bytes false events new
   unkept_some e events h = by before.draft.to_put refl
     where
-      by : (k : Option (List ℕ)) → before.draft.to_put ≡ k → (bytes : List ℕ) × (before.draft.to_put ≡ Some bytes) × facts.keeps (facts.place old) before.stamp bytes false events
-      by None is = let ok = (h.none is).1 in absurd (err_not_ok (failed A E e) e ok refl)
+      by : (k : Option (List ℕ)) → before.draft.to_put ≡ k → (bytes : List ℕ) × (before.draft.to_put ≡ Some bytes) × facts.keeps old before.stamp bytes false events new
+      by None is = let ok = (h.none is).2 in absurd (err_not_ok (failed A E e) e ok refl)
       by (Some bytes) is = (bytes, is, h.some bytes is)
 
 pub quiet_nothing : {G : Type 0} (facts : GamesFacts G) (g : G) → IsQuiet facts g g []

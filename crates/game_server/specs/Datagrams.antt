@@ -1,5 +1,5 @@
 -- One datagram at a server of many games (this project's own).
-use Rattle.std.specs.Prelude.{◌≡◌, ◌⊎◌, ◌++◌, ◌-◌, ℕ, true, false, cond, List, ◌∷◌, take, Option, Some, None, Result, Ok, Err, option_map}
+use Rattle.std.specs.Prelude.{◌≡◌, ◌⊎◌, ◌++◌, ◌-◌, ℕ, false, cond, List, ◌∷◌, take, Option, None, Result, Ok, Err, option_map}
 use Rattle.std.specs.Str.{bytes_eq}
 use Rattle.arbiter_core.specs.Delivers.{Moment}
 use Rattle.move_msg.specs.Heard.{heard_in}
@@ -10,7 +10,7 @@ use Rattle.timeline.specs.Events.{Event}
 use Rattle.timeline.specs.Outsides.{Outside}
 use Rattle.game_folder.specs.Drafts.{DraftView}
 use Rattle.game_server.specs.Fates.{Answered, Fate, GoesTo, Unopened, Unread, fate_leaves, is_lost_at}
-use Rattle.game_folder.specs.Holdings.{GamesFacts, IsQuiet, StaysNoted, known}
+use Rattle.game_folder.specs.Holdings.{GamesFacts, IsQuiet, StaysNoted}
 use Rattle.game_server.specs.Seats.{AreKnown, AreSeats, common, in_use, open_at, room, seat_moment, without}
 use Rattle.game_server.specs.declared.seat.Reply.{Reply}
 use Rattle.game_server.specs.declared.server.Server.{Server}
@@ -48,7 +48,7 @@ pub record HearsDatagram {T P F K S L G : Type 0} (o : Outside T P F K S L) (fac
   pub still : IsQuiet facts old.shared.games new.shared.games events
   pub noted : StaysNoted facts old.shared.games new.shared.games
   pub fate : Fate
-  pub goes : GoesTo facts (common old) old.shared.games datagram (was_open old (heard_in datagram)) events fate
+  pub goes : GoesTo facts (common old) old.shared.games datagram (was_open old (heard_in datagram)) events fate new.shared.games
   pub is : IsReply reply fate
   pub own : was_open new (heard_in datagram) ≡ fate_leaves fate
   pub used : in_use new ≡ used_by (room old) fate (in_use old)

@@ -2,7 +2,6 @@
 use Rattle.std.specs.Prelude.{◌≡◌, ℕ, false, cond, List, [], ◌∷◌, Option, Some, None, IfSome}
 use Rattle.std.specs.Map.{keys_of}
 use Rattle.std.specs.Str.{bytes_eq}
-use Rattle.std.specs.NonZero.{non_zero_usize_get}
 use Rattle.arbiter_core.specs.Delivers.{IsKept, Moment, moment}
 use Rattle.arbiter_core.specs.Resting.{CanWake, awake}
 use Rattle.arbiter_server.specs.Games.{CommonView, common_with}

@@ -1,5 +1,5 @@
 -- What is sent of an answer, over one timeline (this project's own).
-use Rattle.std.specs.Prelude.{ℕ, Bool, List, [], cond, Option, Some, None}
+use Rattle.std.specs.Prelude.{List, [], cond, Option, Some, None}
 use Rattle.std.specs.List.{AllByRecursion, flat_map}
 use Rattle.std.specs.declared.net.socket_addr.SocketAddr.{SocketAddr}
 use Rattle.arbiter_core.specs.Answering.{request_of}

@@ -48,7 +48,7 @@ pub record OpensUnasked {T P F K S L G : Type 0} (o : Outside T P F K S L) (fact
   pub reply : Reply
   pub hears : HearsDatagram o facts old new (message_text (opener stamp)) reply events
   pub told : result ≡ opened_by reply.line
-  pub open : OnOk result (IsSome (open_at new stamp))
+  pub is_open : OnOk result (IsSome (open_at new stamp))
 
 -- the request for moves of a game that is open, if it has one
 abbrev pub request_of : {F : Type 0} → Holding → Option (Seat F) → Option Message

@@ -17,21 +17,24 @@
 //! - CLAIM: `serve`, clause `run`: all that happens outside are turns. In each, datagrams come, and each is answered by one delivery of the
 //!   arbiter of the game that it names, which is opened where it isn't open, or by a refusal alone; then what was noted is committed; then
 //!   each message of each reply goes to each recipient, once and in order, and where that is the sender to whom its datagram came from;
-//!   then a line for each datagram goes out, as the log has it. Where the commit fails nothing is sent. Nothing is received behind a lost
-//!   line. The status is 0 only where all datagrams came, and 1 only where the port is lost or a commit failed.
+//!   then a line for each datagram goes out, as the log has it. A turn has at most as many datagrams as may be answered together, and as
+//!   are still to come (`AreWithin`). Where the commit fails nothing is sent. Nothing is received behind a lost line. The status is 0 only
+//!   where all datagrams came, and 1 only where the port is lost or a commit failed.
 //! - CLAIM: `serve`, clause `earned`; `laws::acks_are_earned`: where what open games keep is known, each acknowledgement of so many moves comes
 //!   after a record of this game with at least so many was put or committed where its record is kept, or found there; each verdict comes
 //!   after a record with it.
 //! - CLAIM: `hear`, clause `made`: nothing is sent. The datagram has one of the fates of `GoesTo`, and the reply is of that. A record that
-//!   can't be kept is not announced, and its game alone is refused; another game is as it was, or closed.
+//!   can't be kept is not announced, and its game alone is refused and closed.
+//! - CLAIM: `hear`, clause `made`: the game that answered is the one used latest (`used_by`). Another one is as it was; where there is no room
+//!   for a game that is opened, the one used least recently is closed, and no other.
 //! - CLAIM: `hear`, clause `made`: what the messages of the reply say (`backed`) of a record was put, committed or found where that game's
 //!   record is kept, or is noted for the next commit.
-//! - CLAIM: `open_game`, clause `made`: a game is opened as for a request for its moves, or the reply says why not, and nothing is sent.
+//! - CLAIM: `open_game`, clause `made`: a game is opened as for a request for its moves, and is open then, or the error says why not; and
+//!   nothing is sent.
 //!   `ask`, clause `made`: the request for moves of an open game goes to each recipient.
 //! - CLAIM: `PortServer::open`: no game is open yet (the error has no cause).
 //!
-//! Not said: how many games are open, which one is closed, and when; which error a commit gave; whether a datagram is awaited or had come, and
-//! that a round takes all that had; why memory was refused.
+//! Not said: why memory was refused, and whether it was memory or the store that failed a commit.
 #![tactic(auto)]
 
 mod gathering;

@@ -1,5 +1,5 @@
 -- Parts of a round; cited by private clauses alone.
-use Rattle.std.specs.Prelude.{◌≡◌, ◌<◌, ◌≤◌, ◌++◌, ℕ, Bool, true, false, List, [], ◌∷◌, cond, length, map, take, Option, Some, None, Result, Ok, Err, OnOk}
+use Rattle.std.specs.Prelude.{◌≡◌, ◌<◌, ◌++◌, ℕ, Bool, true, false, List, [], ◌∷◌, cond, length, map, take, Option, Some, None, Result, Ok, Err, OnOk}
 use Rattle.std.specs.List.{AllByRecursion, flat_map}
 use Rattle.std.specs.declared.net.socket_addr.SocketAddr.{SocketAddr}
 use Rattle.arbiter_server.specs.Games.{CommonView}
@@ -11,7 +11,7 @@ use Rattle.timeline.specs.Events.{Event, Came, Missed, Quiet, is_done}
 use Rattle.timeline.specs.Outsides.{Adds, AddsSome, Outside, SendsToSame}
 use Rattle.game_folder.specs.Holdings.{GamesFacts}
 use Rattle.game_server.specs.Datagrams.{HearsDatagram}
-use Rattle.game_server.specs.Printing.{KnowsLines, LineForm, TextEnd, WritesLines, after_lines, form_in, is_out, text_events, written_text}
+use Rattle.game_server.specs.Printing.{KnowsLines, TextEnd, WritesLines, after_lines, form_in, is_out, text_events, written_text}
 use Rattle.game_server.specs.Rounds.{Heard, HearsAll, ReceiveFails, RoundEnd, TakesUpTo, end_events, heard_events, withheld_line}
 use Rattle.game_server.specs.Runs.{IsTurn, IsWithin, Turn, came_in, deed_lines, ends_run, turn_events}
 use Rattle.game_server.specs.Inside.HeldReplies.{RepliesView}

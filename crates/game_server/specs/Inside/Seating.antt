@@ -1,15 +1,11 @@
 -- One datagram at a server of many games; cited by private clauses alone.
-use Rattle.std.specs.Prelude.{◌≡◌, ◌⊎◌, ◌++◌, ◌-◌, ℕ, Bool, true, false, cond, List, [], ◌∷◌, take, Option, Some, None, Result, Ok, Err, IfOk, option_map}
+use Rattle.std.specs.Prelude.{◌≡◌, ◌⊎◌, ◌++◌, ◌-◌, ℕ, Bool, true, false, cond, List, ◌∷◌, take, Option, Some, None, Result, Ok, Err, IfOk, option_map}
 use Rattle.std.specs.List.{IsDistinct}
 use Rattle.std.specs.Map.{keys_of, remove_entry}
 use Rattle.std.specs.Str.{bytes_eq}
 use Rattle.lru.specs.LruCache.{lru_cache}
 use Rattle.arbiter_core.specs.Delivers.{Moment, Told, exchange, moment}
-use Rattle.arbiter_core.specs.Opens.{IsOpening}
-use Rattle.arbiter_core.specs.Setups.{SetupView}
-use Rattle.arbiter_core.specs.Views.{View}
-use Rattle.arbiter_core.specs.declared.fault.OpenFault.{OpenFault}
-use Rattle.arbiter_server.specs.Games.{CommonView, IsGameOf, setup_of}
+use Rattle.arbiter_server.specs.Games.{IsGameOf, setup_of}
 use Rattle.arbiter_server.specs.declared.fault.OpenGameError.{OpenGameError}
 use Rattle.arbiter_server.specs.declared.fault.OpenGameError.TheVariants as unopened
 use Rattle.arbiter_server.specs.declared.games.GameConfig.{GameConfig}
@@ -20,9 +16,9 @@ use Rattle.move_msg.specs.declared.message.Message.{Message}
 use Rattle.timeline.specs.Events.{Event}
 use Rattle.timeline.specs.Outsides.{AddsSome, Outside}
 use Rattle.game_server.specs.Datagrams.{HearsDatagram, IsLeftOpen}
-use Rattle.game_folder.specs.Drafts.{DraftView, draft_facts, settled}
+use Rattle.game_folder.specs.Drafts.{DraftView, settled}
 use Rattle.game_server.specs.Fates.{Answered, AnswersBy, HasGame, OpensFor, OpensSeat, TakesAndOpens, is_unput}
-use Rattle.game_folder.specs.Holdings.{GamesFacts, IsKnown, IsQuiet, SendsNothing, StaysNoted, known}
+use Rattle.game_folder.specs.Holdings.{GamesFacts, IsKnown, IsQuiet, SendsNothing, StaysNoted}
 use Rattle.game_server.specs.Replies.{AreBacked, IsReply}
 use Rattle.game_server.specs.Seats.{AreKnown, IsKnownSeat, IsSeat, SameCommon, common, common_in, in_use, open_at, room, seat_moment, without}
 use Rattle.game_folder.specs.declared.games.KeptGame.{KeptGame}
@@ -64,7 +60,7 @@ pub record OpensOverKept {T P F K S L G : Type 0} (o : Outside T P F K S L) (fac
   pub same : SameCommon old new
   pub still : IsQuiet facts old.games new.games events
   pub noted : StaysNoted facts old.games new.games
-  pub opens : OpensSeat facts (facts.place old.games) kept.stamp (setup_of (common_in old) game.name.items game.start game.delay) kept.draft events (seated_as old.tables result)
+  pub opens : OpensSeat facts old.games kept.stamp (setup_of (common_in old) game.name.items game.start game.delay) kept.draft events (seated_as old.tables result) new.games
   pub ok : IfOk result (IsSeat o facts new.games old.tables kept.stamp)
   pub knows : IfOk result (KnowsSeat facts old.games new.games kept.stamp kept.draft.kept events)
 
@@ -73,7 +69,7 @@ pub record OpensTaken {T P F K S L G : Type 0} (o : Outside T P F K S L) (facts 
   pub same : SameCommon old new
   pub still : IsQuiet facts old.games new.games events
   pub noted : StaysNoted facts old.games new.games
-  pub opens : TakesAndOpens facts (common_in old) old.games stamp game events (seated_as old.tables result)
+  pub opens : TakesAndOpens facts (common_in old) old.games stamp game events (seated_as old.tables result) new.games
   pub ok : IfOk result (IsSeat o facts new.games old.tables stamp)
   pub knows : IfOk result (IsKnownThen facts new.games stamp events)
 
@@ -82,7 +78,7 @@ pub record OpensForMessage {T P F K S L G : Type 0} (o : Outside T P F K S L) (f
   pub same : SameCommon old new
   pub still : IsQuiet facts old.games new.games events
   pub noted : StaysNoted facts old.games new.games
-  pub opens : OpensFor facts (common_in old) old.games m events (seated_as old.tables result)
+  pub opens : OpensFor facts (common_in old) old.games m events (seated_as old.tables result) new.games
   pub ok : IfOk result (IsSeat o facts new.games old.tables (stamp_in m))
   pub knows : IfOk result (IsKnownThen facts new.games (stamp_in m) events)
 
@@ -104,7 +100,7 @@ pub record DeliversTo {T P F K S L G : Type 0} (o : Outside T P F K S L) (facts 
   pub told : Told
   pub after : Moment DraftView
   pub is_kept : Bool
-  pub answers : AnswersBy facts old.games (stamp_in m) (seat_moment old.tables seat) m told after is_kept events
+  pub answers : AnswersBy facts old.games (stamp_in m) (seat_moment old.tables seat) m told after is_kept events new.games
   pub left : seat_moment old.tables seat' ≡ moment after.arbiter (settled after.keeper)
   pub reply : (datagram : List ℕ) → IsReply (reply_in result) (Answered (stamp_in m) (exchange datagram told after) is_kept)
   pub closed : closes result ≡ is_unput after.keeper.to_put is_kept told
@@ -121,8 +117,8 @@ used_first stamp seat entries = (stamp, seat) ∷ remove_entry (bytes_eq stamp) 
 -- a game of this server is open now: it was, or it was opened by these events; others may have been closed for want of room
 pub record IsOpenFor {T P F K S L G : Type 0} (o : Outside T P F K S L) (facts : GamesFacts G) (old new : Server G F) (m : Message) (events : List Event) : Type 0 where
   pub seat : Seat F
-  pub open : open_at new (stamp_in m) ≡ Some seat
-  pub has : HasGame facts (common old) old.shared.games m (option_map (seat_moment old.shared.tables) (open_at old (stamp_in m))) events (seat_moment old.shared.tables seat)
+  pub there : open_at new (stamp_in m) ≡ Some seat
+  pub has : HasGame facts (common old) old.shared.games m (option_map (seat_moment old.shared.tables) (open_at old (stamp_in m))) events (seat_moment old.shared.tables seat) new.shared.games
   pub seated : IsSeat o facts new.shared.games old.shared.tables (stamp_in m) seat
   pub knows : (before : List Event) → AreKnown facts old before → IsKnownSeat facts new.shared.games (before ++ events) (stamp_in m) seat
   pub others : (other : List ℕ) → bytes_eq (stamp_in m) other ≡ false → IsLeftOpen (open_at old other) (open_at new other)
@@ -131,7 +127,7 @@ pub record IsOpenFor {T P F K S L G : Type 0} (o : Outside T P F K S L) (facts :
 -- or it isn't, for this reason; no other was used
 pub record IsNotOpenFor {G F : Type 0} (facts : GamesFacts G) (old new : Server G F) (m : Message) (why : OpenGameError) (events : List Event) : Type 0 where
   pub none : open_at old (stamp_in m) ≡ None
-  pub opens : OpensFor facts (common old) old.shared.games m events (Err why)
+  pub opens : OpensFor facts (common old) old.shared.games m events (Err why) new.shared.games
   pub seats : new.seats ≡ old.seats
 
 abbrev pub IsOpenOrNot : {T P F K S L G : Type 0} → Outside T P F K S L → GamesFacts G → Server G F → Server G F → Message → Result (Unit {0}) OpenGameError → List Event → Type 0
@@ -150,7 +146,7 @@ pub record Brings {T P F K S L G : Type 0} (o : Outside T P F K S L) (facts : Ga
 pub record AnswersAt {T P F K S L G : Type 0} (o : Outside T P F K S L) (facts : GamesFacts G) (old new : Server G F) (m : Message) (result : Answer) (events : List Event) : Type 0 where
   pub seat : Seat F
   pub left : Seat F
-  pub open : open_at old (stamp_in m) ≡ Some seat
+  pub there : open_at old (stamp_in m) ≡ Some seat
   pub delivers : DeliversTo o facts old.shared new.shared seat left m result events
   pub entries : new.seats ≡ lru_cache (used_first (stamp_in m) left old.seats.entries) (room old)
   pub apart : IsDistinct bytes_eq (keys_of old.seats.entries)
@@ -172,11 +168,11 @@ pub record AnswersFrom {T P F K S L G : Type 0} (o : Outside T P F K S L) (facts
   pub noted : StaysNoted facts old.shared.games new.shared.games
   pub room_is : room new ≡ room old
   pub seat : Seat F
-  pub open : open_at old (stamp_in m) ≡ Some seat
+  pub there : open_at old (stamp_in m) ≡ Some seat
   pub told : Told
   pub after : Moment DraftView
   pub is_kept : Bool
-  pub answers : AnswersBy facts old.shared.games (stamp_in m) (seat_moment old.shared.tables seat) m told after is_kept events
+  pub answers : AnswersBy facts old.shared.games (stamp_in m) (seat_moment old.shared.tables seat) m told after is_kept events new.shared.games
   pub is : (datagram : List ℕ) → IsReply reply (Answered (stamp_in m) (exchange datagram told after) is_kept)
   pub own : IsSeatedNow o facts old.shared.games new.shared.games old.shared.tables (stamp_in m) seat (moment after.arbiter (settled after.keeper)) events (is_unput after.keeper.to_put is_kept told) (open_at new (stamp_in m))
   pub others : (other : List ℕ) → bytes_eq (stamp_in m) other ≡ false → open_at new other ≡ open_at old other

@@ -1,4 +1,4 @@
-use Rattle.std.proofs.Common.{◌≡◌, ◌∙◌, ◌<◌, ◌≤◌, ◌+◌, ◌++◌, ◌∷◌, [], ℕ, ap, arith, length, length-append, refl, subst, sym}
+use Rattle.std.proofs.Common.{◌≡◌, ◌∙◌, ◌+◌, ◌++◌, ◌∷◌, [], ap, arith, length, length-append, refl, sym}
 use Rattle.std.specs.Prelude.{Ok}
 use Rattle.game_server.specs.Inside.HeldReplies.{RepliesView}
 use Rattle.game_server.specs.Rounds.{IsFull, NoMore}

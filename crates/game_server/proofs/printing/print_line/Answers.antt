@@ -1,7 +1,7 @@
-use Rattle.std.proofs.Common.{subst, sym}
+use Rattle.std.proofs.Common.{subst}
 use Rattle.std.specs.Prelude.{option_map}
 use Rattle.game_server.specs.Inside.Running.{IsTextEnd, PicksText}
-use Rattle.game_server.proofs.PrintLaws.{line_left, line_written}
+use Rattle.game_server.proofs.PrintLaws.{line_written}
 use Rattle.timeline.specs.Events.{is_done}
 use Rattle.timeline.specs.Outsides.{AddsSome}
 use Rattle.game_server.proofs.printing.print_line.Goals as goal

@@ -1,7 +1,3 @@
-use Rattle.std.proofs.Common.{subst}
-use Rattle.game_server.specs.Inside.Running.{WritesAll, held_lines}
-use Rattle.game_server.specs.declared.replies.Held.{Held}
-use Rattle.std.specs.Prelude.{Ok, Err, List, cond, []}
 use Rattle.game_server.proofs.RunLaws.{concluded, concluded_cut}
 use Rattle.game_server.proofs.running.conclude.Goals as goal
 

@@ -1,4 +1,4 @@
-use Rattle.std.proofs.Common.{◌≡◌, ◌≤◌, ◌<◌, ◌+◌, ◌-◌, min, ◌∙◌, ap, arith, refl, subst, sym}
+use Rattle.std.proofs.Common.{◌≡◌, ◌+◌, ◌-◌, min, ◌∙◌, ap, arith, refl}
 use Rattle.std.specs.Prelude.{Err, Ok, []}
 use Rattle.game_server.specs.Printing.{form_in}
 use Rattle.game_server.proofs.EarnLaws.{run_earned}

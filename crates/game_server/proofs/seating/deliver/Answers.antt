@@ -1,10 +1,11 @@
-use Rattle.std.proofs.Common.{List, ℕ, [], ◌++◌, Bool, Option, Some, None, true, false, ap, ap₂, refl, subst, sym, ◌∙◌}
+use Rattle.std.proofs.Common.{List, ℕ, [], ◌++◌, Option, true, false, ap, ap₂, refl, subst, sym, ◌∙◌}
 use Rattle.std.specs.Prelude.{Ok, Err}
 use Rattle.std.proofs.lemmas.Bool.{false≢true}
 use Rattle.arbiter_core.specs.Delivers.{exchange, in_game, moment}
 use Rattle.arbiter_core.specs.Resting.{awake}
 use Rattle.arbiter_server.specs.ServedLines.{heard_words, refused_keeper}
 use Rattle.arbiter_server.specs.Told.{stamped}
+use Rattle.arbiter_server.specs.declared.datagram_report.DatagramReport.TheVariants as report
 use Rattle.arbiter_server.specs.declared.line.Line.TheVariants as line
 use Rattle.move_msg.specs.Messages.{stamp_in}
 use Rattle.move_msg.specs.declared.message.Message.{Message}
@@ -47,10 +48,10 @@ returns-in-Ok-keep g c =
           told = Ok outputs;
           after = after;
           is_kept = true;
-          answers = record { answers = c.in-Ok.ensures.answers; kept = subst (λ (s : List ℕ). KeepsAnswer facts (facts.place old.games) s (Ok outputs) draft.to_put true h.0) of (keeps_answer facts _ seat.kept.stamp outputs draft.to_put h.0 (kept_if_any o facts _ _ _ _ _ h.0 k)) };
+          answers = record { answers = c.in-Ok.ensures.answers; kept = subst (λ (s : List ℕ). KeepsAnswer facts old.games s (Ok outputs) draft.to_put true h.0 c.keep.new.self) of (keeps_answer facts old.games c.keep.new.self seat.kept.stamp outputs draft.to_put h.0 (kept_if_any o facts _ _ _ _ _ h.0 k)) };
           left = ap (moment (awake c.deliver.new.self old.tables)) k.draft;
           reply = λ datagram. let f = fate_kept stamp (exchange datagram (Ok outputs) after) (put_if_any draft.to_put outputs) in
-              record { outputs = sym f.0; line = ap₂ stamped c.stamp-stamp.ensures (ap₂ heard_words c.count.ensures.is c.verdict.ensures) ∙ sym f.1; told = (_, ap (λ (s : List ℕ). line.Answered s _) c.stamp-stamp.ensures, λ lost. absurd (false≢true (sym (put_if_any draft.to_put outputs) ∙ lost))) };
+              record { outputs = sym f.0; line = ap₂ stamped c.stamp-stamp.ensures (ap₂ heard_words c.count.ensures.is c.verdict.ensures) ∙ sym f.1; told = (report.Recorded c.count.result c.verdict.result, ap (λ (s : List ℕ). line.Answered s (report.Recorded c.count.result c.verdict.result)) c.stamp-stamp.ensures, λ lost. absurd (false≢true (sym (put_if_any draft.to_put outputs) ∙ lost))) };
           closed = sym (put_if_any draft.to_put outputs);
           seated = λ yes. is_seat o facts old.games c.keep.new.self old.tables stamp seat seat' (Ok outputs) draft c.requires a k.draft c.in-Ok.ensures.keeps k.of k.within c.in-Ok.ensures.wakes;
           backed = λ before knew. are_backed o facts old.games c.keep.new.self old.tables stamp seat seat' (Ok outputs) draft c.requires a k.draft c.in-Ok.ensures.keeps k.still.place k.noted before h.0
@@ -85,10 +86,10 @@ returns-in-Err-keep g c =
           told = Ok outputs;
           after = after;
           is_kept = false;
-          answers = record { answers = c.in-Ok.ensures.answers; kept = subst (λ (s : List ℕ). KeepsAnswer facts (facts.place old.games) s (Ok outputs) draft.to_put false h.0) of (keeps_lost facts _ c.args.seat.now.kept.stamp outputs draft.to_put h.0 lost.0 lost.1 lost.2) };
+          answers = record { answers = c.in-Ok.ensures.answers; kept = subst (λ (s : List ℕ). KeepsAnswer facts old.games s (Ok outputs) draft.to_put false h.0 c.keep.new.self) of (keeps_lost facts old.games c.keep.new.self c.args.seat.now.kept.stamp outputs draft.to_put h.0 lost.0 lost.1 lost.2) };
           left = ap (moment (awake c.deliver.new.self old.tables)) k.draft;
           reply = λ datagram. let f = fate_lost stamp (exchange datagram (Ok outputs) after) (ap (λ (p : Option (List ℕ)). is_unput p false (Ok outputs)) lost.1) in
-              record { outputs = c.line_alone.ensures.outputs ∙ sym f.0; line = ap line_words c.line_alone.ensures.line ∙ (ap (λ (s : List ℕ). stamped s refused_keeper) c.stamp-stamp.ensures ∙ sym f.1); told = (_, c.line_alone.ensures.line ∙ ap (λ (s : List ℕ). line.Answered s _) c.stamp-stamp.ensures, λ gone. refl) };
+              record { outputs = c.line_alone.ensures.outputs ∙ sym f.0; line = ap line_words c.line_alone.ensures.line ∙ (ap (λ (s : List ℕ). stamped s refused_keeper) c.stamp-stamp.ensures ∙ sym f.1); told = (report.KeeperLost, c.line_alone.ensures.line ∙ ap (λ (s : List ℕ). line.Answered s report.KeeperLost) c.stamp-stamp.ensures, λ gone. refl) };
           closed = sym (ap (λ (p : Option (List ℕ)). is_unput p false (Ok outputs)) lost.1);
           seated = λ no. absurd (false≢true (sym no));
           backed = λ before knew. subst (λ (ms : List Message). AreBacked facts c.keep.new.self (before ++ h.0) ms) (sym c.line_alone.ensures.outputs) tt;
@@ -121,9 +122,9 @@ returns-in-Err g c =
           told = Err c.in-Err.fault;
           after = after;
           is_kept = true;
-          answers = record { answers = c.in-Err.ensures.answers; kept = refl };
+          answers = record { answers = c.in-Err.ensures.answers; kept = (refl, refl) };
           left = ap (moment (awake c.deliver.new.self old.tables)) (clean_draft draft clean);
-          reply = λ datagram. record { outputs = out; line = ap line_words c.line_alone-in-Err.ensures.line ∙ ap₂ stamped c.stamp-stamp.ensures c.refused.ensures; told = (_, c.line_alone-in-Err.ensures.line ∙ ap (λ (s : List ℕ). line.Answered s _) c.stamp-stamp.ensures, λ lost. absurd (false≢true lost)) };
+          reply = λ datagram. record { outputs = out; line = ap line_words c.line_alone-in-Err.ensures.line ∙ ap₂ stamped c.stamp-stamp.ensures c.refused.ensures; told = (c.refused.result, c.line_alone-in-Err.ensures.line ∙ ap (λ (s : List ℕ). line.Answered s c.refused.result) c.stamp-stamp.ensures, λ lost. absurd (false≢true lost)) };
           closed = refl;
           seated = λ yes. is_seat o facts old.games old.games old.tables stamp seat seat' (Err c.in-Err.fault) draft c.requires a (clean_draft draft clean) c.in-Err.ensures.keeps refl
               (subst (λ (s : List ℕ). IsKeptIn o (facts.places (facts.place old.games) s) seat.kept.file) (sym c.requires.of) c.requires.within) c.in-Err.ensures.wakes;

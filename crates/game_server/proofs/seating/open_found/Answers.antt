@@ -15,7 +15,7 @@ returns-in-Err g c = record {
 }
 
 pub open_over-requires-clause-game : goal.open_over-requires-clause-game
-open_over-requires-clause-game g c = subst (λ (s : List ℕ). IsGameOf c.args.shared.now.shared.config.manifest.now s c.args.game.name.items c.args.game.start c.args.game.delay) (sym c.in-Ok.ensures.made.2.ok.of) c.requires
+open_over-requires-clause-game g c = subst (λ (s : List ℕ). IsGameOf c.args.shared.now.config.manifest.now s c.args.game.name.items c.args.game.start c.args.game.delay) (sym c.in-Ok.ensures.made.2.ok.of) c.requires
 
 pub open_over-requires-clause-within : goal.open_over-requires-clause-within
 open_over-requires-clause-within g c =

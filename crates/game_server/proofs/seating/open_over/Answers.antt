@@ -1,4 +1,4 @@
-use Rattle.std.proofs.Common.{List, ℕ, Option, ap, refl, subst, sym, ◌∙◌}
+use Rattle.std.proofs.Common.{ap, refl, subst, sym, ◌∙◌}
 use Rattle.std.specs.Prelude.{Ok, Err}
 use Rattle.arbiter_core.specs.Delivers.{IsKept, moment}
 use Rattle.arbiter_core.specs.Resting.{awake}
@@ -84,7 +84,7 @@ returns g c =
           same = record { config = refl; tables = c.open.ensures.same };
           still = quiet_nothing _ _;
           noted = λ stamp bytes noted. noted;
-          opens = SeatRefused c.open.new.keeper c.in-Err.refused.fault opening refl (ap Err c.unopened.ensures);
+          opens = SeatRefused c.open.new.keeper c.in-Err.refused.fault opening refl refl (ap Err c.unopened.ensures);
           ok = tt;
           knows = tt;
         },

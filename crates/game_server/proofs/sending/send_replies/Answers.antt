@@ -1,4 +1,4 @@
-use Rattle.std.proofs.Common.{◌≡◌, ◌∙◌, ap, ap₂, subst, sym}
+use Rattle.std.proofs.Common.{ap₂, subst}
 use Rattle.timeline.proofs.EventLaws.{adds_none}
 use Rattle.game_server.specs.Sending.{AllSpelled, address, address_of, sent}
 use Rattle.timeline.specs.Outsides.{Adds}

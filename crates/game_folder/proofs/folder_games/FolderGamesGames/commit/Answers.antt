@@ -7,6 +7,6 @@ returns g c = record {
   made = (
     [],
     adds_none (g.S.System.outside c.args._system.now) c.args._timeline.now,
-    record { still = record { quiet = tt; place = refl }; done = (refl, refl); kept = λ stamp bytes none. absurd none; left = tt },
+    record { still = record { quiet = tt; place = refl }; done = (refl, refl, refl); kept = λ stamp bytes none. absurd none; left = tt },
   );
 }

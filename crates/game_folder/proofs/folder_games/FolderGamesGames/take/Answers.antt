@@ -11,7 +11,7 @@ returns-in_default g c = record {
   made = (
     [],
     adds_none (g.S.System.outside c.args.system.now) c.args.timeline.now,
-    record { still = record { quiet = tt; place = refl }; noted = λ stamp bytes n. n; taken = HadNoRoom refl refl; ok = tt },
+    record { still = record { quiet = tt; place = refl }; noted = λ stamp bytes n. n; taken = (HadNoRoom refl refl, refl); ok = tt },
   );
 }
 
@@ -26,6 +26,6 @@ returns g c =
       made = (
         h.0,
         h.1,
-        takes_by_file o folder_games_facts games path c.args.stamp c.take_file.result h.0 refl (λ got t. t) c.as_str.result.now at h.2,
+        takes_by_file o folder_games_facts games path c.args.stamp c.take_file.result h.0 refl (λ got t. (t, refl)) c.as_str.result.now at h.2,
       );
     }
