@@ -8,7 +8,7 @@ use Rattle.timeline.specs.Events.{Event}
 use Rattle.game_folder.specs.Holdings.{GamesFacts}
 use Rattle.game_folder.specs.Places.{KeptAt}
 use Rattle.served_games.specs.Durable.{IsDurableAfter, IsFoundIn, KeepsAtOnce, MayFind, StaysFound, behind, left_before}
-use Rattle.served_games.specs.PlaceKeepers.{Follows, PlaceKeeper, found_keeper}
+use Rattle.served_games.specs.PlaceKeepers.{AtPlace, Follows, PlaceKeeper, found_keeper}
 use Rattle.served_games.specs.ServedGames.{AreOverLeft, ClosesMake, IsOverLeft, IsPut, Looked, LooksInVain, Makes, MakesAll, NothingPut, NotLooked, NotTaken, OpensBy, OpensOverLeft, PutFails, PutsBy, life_by, life_through}
 use Rattle.served_games.proofs.Going.{Acts, Life}
 
@@ -79,8 +79,8 @@ module _ {G : Type 0} (facts : GamesFacts G) (at_once : KeepsAtOnce facts) (plac
   -- behind a put
   puts_found : (past events : List Event) (k now : PlaceKeeper) → PutsBy facts place stamp k now events → ((found : Option (List ℕ)) → MayFind at stamp past found → found ≡ k.kept) → (found : Option (List ℕ)) → MayFind at stamp (behind past events) found → Follows now (found_keeper found)
   puts_found past events k now (NothingPut same none) h found m = inl (h found (stays_none at stamp past events none found m) ∙ ap (λ (x : PlaceKeeper). x.kept) (sym same))
-  puts_found past events k now (IsPut bytes keeps is) h found m = inl (at_once.keeps place stamp bytes events past keeps found m ∙ ap (λ (x : PlaceKeeper). x.kept) (sym is))
-  puts_found past events k now (PutFails bytes keeps is) h found m = by (at_once.fails place stamp bytes events past keeps found m)
+  puts_found past events k now (IsPut games after bytes there keeps is) h found m = inl (at_once.keeps place games after there stamp bytes events past keeps found m ∙ ap (λ (x : PlaceKeeper). x.kept) (sym is))
+  puts_found past events k now (PutFails games after bytes there keeps is) h found m = by (at_once.fails place games after there stamp bytes events past keeps found m)
     where
       by : (found ≡ Some bytes) ⊎ MayFind at stamp past found → Follows now (found_keeper found)
       by (inl new) = inr (bytes, ap (λ (x : PlaceKeeper). x.unkept) is, new)
@@ -89,9 +89,9 @@ module _ {G : Type 0} (facts : GamesFacts G) (at_once : KeepsAtOnce facts) (plac
   vain_stays : (past events : List Event) → LooksInVain facts place stamp events → StaysFound at stamp past events
   vain_stays past events (NotLooked none) = stays_none at stamp past events none
   vain_stays past events (Looked result finds) = at_once.finds place stamp stamp result events past finds
-  vain_stays past events (NotTaken game looked finds games there why taken takes are) =
+  vain_stays past events (NotTaken game looked finds games there why taken after takes are) =
       stays_as at stamp past events (looked ++ taken) are
-      (stays_join at stamp past looked taken (at_once.finds place stamp stamp (Ok game) looked past finds) (at_once.withholds place games there stamp why taken (behind past looked) takes))
+      (stays_join at stamp past looked taken (at_once.finds place stamp stamp (Ok game) looked past finds) (at_once.withholds place games after (AtPlace there) stamp why taken (behind past looked) takes))
 
   record OpensFound (past events : List Event) (o : Opening PlaceKeeper) : Type 0 where
     over : MayFind at stamp past o.before.kept
@@ -101,7 +101,7 @@ module _ {G : Type 0} (facts : GamesFacts G) (at_once : KeepsAtOnce facts) (plac
   opens_found past events o b durable =
       let all : IsDurableAfter at stamp past (b.looked ++ (b.taken ++ b.put)) = subst (IsDurableAfter at stamp past) b.are durable in
       let after : IsDurableAfter at stamp (behind past b.looked) (b.taken ++ b.put) = durable_rest at stamp past b.looked (b.taken ++ b.put) all in
-      let taken = at_once.takes place b.games b.there stamp o.before.kept b.taken (behind past b.looked) b.takes (durable_first at stamp (behind past b.looked) b.taken b.put after) in
+      let taken = at_once.takes place b.games b.after (AtPlace b.there) stamp o.before.kept b.taken (behind past b.looked) b.takes (durable_first at stamp (behind past b.looked) b.taken b.put after) in
       let joined : behind past events ≡ behind (behind (behind past b.looked) b.taken) b.put = ap (behind past) b.are ∙ behind_join past b.looked (b.taken ++ b.put) ∙ behind_join (behind past b.looked) b.taken b.put in
       record {
         over = at_once.finds place stamp stamp (Ok b.game) b.looked past b.finds o.before.kept taken.0;

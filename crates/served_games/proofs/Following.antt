@@ -30,7 +30,7 @@ use Rattle.game_server.specs.Seats.{common, open_at, seat_moment}
 use Rattle.game_server.specs.declared.seat.Seat.{Seat}
 use Rattle.game_server.specs.declared.server.Server.{Server}
 use Rattle.served_games.specs.Durable.{AreToldAt, FoundGame, GamesAreFound, IsDurableAfter, IsFoundIn, IsToldAt, KeepsAtOnce, StaysFound, behind, left_before, made_of}
-use Rattle.served_games.specs.PlaceKeepers.{PlaceKeeper}
+use Rattle.served_games.specs.PlaceKeepers.{AtPlace, PlaceKeeper}
 use Rattle.served_games.specs.ServedGames.{AreOverLeft, IsAt, MakesAll, OpenedGame, PlaysAll, acts_in, all_acts, game_at, heard_by, heard_in_turns, is_for, life_through, made_for, reply_for}
 use Rattle.served_games.proofs.Asides.{WasTold, aside_one, asides, end_aside, lines_aside, other_stays, round_aside, told_by}
 use Rattle.served_games.proofs.Finding.{acts_found, behind_join, durable_first, durable_rest, found_stays, left_acts, over_join}
@@ -109,7 +109,7 @@ module _ {T P F K S L G : Type 0} (o : Outside T P F K S L) (facts : GamesFacts 
     left_told other seat (inr none) is = absurd (let f : ◌≡◌ {A = Option (Seat F)} None (Some seat) = sym none ∙ is in cc)
 
     own_told : (m : Message) → heard_in h.datagram ≡ Ok m → (seat : Seat F) → open_at new (stamp_in m) ≡ Some seat → IsToldAt facts (facts.place new.shared.games) (stamp_in m)
-    own_told m is seat some = by (told_by facts (common old) old.shared.games h.datagram m (was_open old (heard_in h.datagram)) h.events d.fate is (was_told facts stamp old h.datagram told m is) d.goes)
+    own_told m is seat some = by (told_by facts (common old) old.shared.games h.datagram m (was_open old (heard_in h.datagram)) h.events d.fate new.shared.games is (was_told facts stamp old h.datagram told m is) d.goes)
       where
         by : (fate_leaves d.fate ≡ None) ⊎ IsToldAt facts (facts.place old.shared.games) (stamp_in m) → IsToldAt facts (facts.place new.shared.games) (stamp_in m)
         by (inl none) = absurd (none_seat new.shared.tables (open_at new (stamp_in m)) seat some (subst (λ (r : Result Message MessageFault). was_open new r ≡ fate_leaves d.fate) is d.own ∙ none))
@@ -168,7 +168,7 @@ module _ {T P F K S L G : Type 0} (o : Outside T P F K S L) (facts : GamesFacts 
     by_for n false is =
         let makes : MakesAll facts (place_of old) stamp life n.acts [] = subst (λ (x : Bool). MakesAll facts (place_of old) stamp life n.acts (cond x h.events [])) is n.on.makes in
         let a = acts_found facts at_once (place_of old) stamp before past [] life n.acts makes tt found in
-        let stays : StaysFound (kept_at old) stamp past h.events = other_stays facts at_once (common old) old.shared.games stamp told.mine h.datagram (was_open old (heard_in h.datagram)) h.events past d.fate (not_of stamp (heard_in h.datagram) is) (was_told facts stamp old h.datagram told) d.goes in
+        let stays : StaysFound (kept_at old) stamp past h.events = other_stays facts at_once (common old) old.shared.games stamp told.mine h.datagram (was_open old (heard_in h.datagram)) h.events past d.fate new.shared.games (not_of stamp (heard_in h.datagram) is) (was_told facts stamp old h.datagram told) d.goes in
         from_acts n (found_stays (kept_at old) stamp past h.events before (life_through life n.acts) stays a.found) a.over
 
     made_found : FoundOver old life (h ∷ []) new (behind past h.events)
@@ -228,7 +228,7 @@ module _ {T P F K S L G : Type 0} (o : Outside T P F K S L) (facts : GamesFacts 
       let b = behind a ends in
       let c = behind b r.commits in
       let at_end = on_events facts (place_of old) (common old) stamp before life r.heard (game_at is.mid stamp) a ends (asides (kept_at old) stamp a ends (end_aside r.end)) f in
-      let at_commit = on_events facts (place_of old) (common old) stamp before life r.heard (game_at is.mid stamp) b r.commits (at_once.commits (place_of old) is.mid.shared.games s.place stamp (without_value r.committed) r.commits b is.commits.done) at_end in
+      let at_commit = on_events facts (place_of old) (common old) stamp before life r.heard (game_at is.mid stamp) b r.commits (at_once.commits (place_of old) is.mid.shared.games new.shared.games (AtPlace s.place) stamp (without_value r.committed) r.commits b is.commits.done) at_end in
       let at_sent = on_events facts (place_of old) (common old) stamp before life r.heard (game_at is.mid stamp) c sends (asides (kept_at old) stamp c sends (round_aside to r.heard r.committed)) at_commit in
       let joined : behind past (round_events to r) ≡ behind c sends = behind_join past (heard ++ ends) (r.commits ++ sends) ∙ ap (λ (l : List Event). behind l (r.commits ++ sends)) (behind_join past heard ends) ∙ behind_join b r.commits sends in
       record {

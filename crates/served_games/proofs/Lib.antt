@@ -1,6 +1,7 @@
 pub mod Carrying
 pub mod Opening
 pub mod Going
+pub mod Reaching
 pub mod Playing
 pub mod Running
 pub mod Telling

@@ -24,10 +24,11 @@ use Rattle.game_folder.specs.Drafts.{DraftView, draft_facts, settled}
 use Rattle.game_folder.specs.Holdings.{GamesFacts}
 use Rattle.game_server.specs.Datagrams.{IsLeftOpen}
 use Rattle.game_server.specs.Fates.{Answered, AnswersBy, Fate, GoesTo, HasGame, IsAnswered, IsFound, IsOther, IsUnopened, IsUnread, NotFound, OpensFor, OpensNone, OpensSeat, SeatNotHeld, SeatOpened, SeatRefused, SeatUnkept, TakesAndOpens, TakesNone, TakesOne, Unopened, fate_leaves, fate_line, fate_outputs, found_draft, is_unput}
-use Rattle.served_games.specs.PlaceKeepers.{IsNotFound, LacksArbiter, NotHeld, PlaceKeeper, found_keeper, has_failed, place_facts, place_keepers}
+use Rattle.served_games.specs.PlaceKeepers.{AtPlace, BehindTake, IsNotFound, IsThere, LacksArbiter, NotHeld, PlaceKeeper, found_keeper, has_failed, place_facts, place_keepers}
 use Rattle.served_games.specs.ServedGames.{GoesOn, IsAt, IsOpenAt, IsOverLeft, Looked, LooksInVain, NothingPut, NotLooked, NotTaken, OpensBy, PutFails, PutsBy}
 use Rattle.served_games.proofs.Carrying.{Carried, carried}
 use Rattle.served_games.proofs.Going.{Acts, Life, on_join, on_nothing}
+use Rattle.served_games.proofs.Reaching.{has_there}
 use Rattle.served_games.proofs.Opening.{IsOpened, opened, opening_refused, opening_unkept}
 
 abbrev pub reply_with : List ℕ → List Message → List ℕ → DatagramReply
@@ -137,7 +138,10 @@ module _ {G : Type 0} (facts : GamesFacts G) (t : CommonView) (g : G) where
       strange_as why tried b events vain at s = strange why tried events vain (subst (λ (x : Bool). IsStrange (place_keepers facts place) t.manifest stamp x tried why) (sym (opens_is ∙ at)) s)
 
     module _ (life : Life) (shut : IsNotOpen life) where
-      module _ (game : GameConfig) (looked : List Event) (finds : facts.finds place stamp (Ok game) looked) (game_is : IsGameOf t.manifest stamp game.name.items game.start game.delay) (taken put : List Event) (got : Option (List ℕ)) (takes : facts.takes g stamp (Ok got) taken) where
+      module _ (game : GameConfig) (looked : List Event) (finds : facts.finds place stamp (Ok game) looked) (game_is : IsGameOf t.manifest stamp game.name.items game.start game.delay) (taken put : List Event) (got : Option (List ℕ)) (mid : G) (takes : facts.takes g stamp (Ok got) taken mid) where
+        there_mid : IsThere facts place mid
+        there_mid = BehindTake g stamp (Ok got) taken (AtPlace refl) takes
+
         abbrev opening_to : PlaceKeeper → Opening PlaceKeeper
         opening_to now = record { setup = setup_of t game.name.items game.start game.delay; before = found_keeper got; now = now }
 
@@ -151,7 +155,7 @@ module _ {G : Type 0} (facts : GamesFacts G) (t : CommonView) (g : G) where
         }
 
         opens_by_events : (now : PlaceKeeper) (events : List Event) → events ≡ looked ++ (taken ++ put) → PutsBy facts place stamp (found_keeper got) now put → OpensBy facts place stamp (opening_to now) events
-        opens_by_events now events are puts = record { game = game; name = refl; start = refl; delay = refl; looked = looked; finds = finds; games = g; there = refl; taken = taken; takes = takes; put = put; puts = puts; are = are }
+        opens_by_events now events are puts = record { game = game; name = refl; start = refl; delay = refl; looked = looked; finds = finds; games = g; there = refl; taken = taken; after = mid; takes = takes; put = put; puts = puts; are = are }
 
         refuses : (now : PlaceKeeper) (fault : OpenFault) (why : OpenGameError) (events : List Event) → why ≡ unopened_by fault → events ≡ looked ++ (taken ++ put) → IsOpening place_facts (setup_of t game.name.items game.start game.delay) (found_keeper got) now (Err fault) → PutsBy facts place stamp (found_keeper got) now put → Next stamp life (unopened stamp datagram why ∷ []) events None
         refuses now fault why events w are h puts = record {
@@ -190,6 +194,7 @@ module _ {G : Type 0} (facts : GamesFacts G) (t : CommonView) (g : G) where
           there = refl;
           got = got;
           taken = taken;
+          after = mid;
           takes = takes;
           now = x.now;
           arbiter = v;
@@ -210,34 +215,34 @@ module _ {G : Type 0} (facts : GamesFacts G) (t : CommonView) (g : G) where
               at = s.at;
             }
 
-        by_seat : (why : OpenGameError) (events : List Event) → opens_game m ≡ true → events ≡ looked ++ (taken ++ put) → OpensSeat facts place stamp (setup_of t game.name.items game.start game.delay) (found_draft got) put (Err why) → Next stamp life (unopened stamp datagram why ∷ []) events None
-        by_seat why events opens are (SeatRefused after fault h nothing told) =
+        by_seat : (why : OpenGameError) (events : List Event) (new : G) → opens_game m ≡ true → events ≡ looked ++ (taken ++ put) → OpensSeat facts mid stamp (setup_of t game.name.items game.start game.delay) (found_draft got) put (Err why) new → Next stamp life (unopened stamp datagram why ∷ []) events None
+        by_seat why events new opens are (SeatRefused after fault h nothing same told) =
             refuses (found_keeper got) fault why events (same_why why (unopened_by fault) told) are (opening_refused (setup_of t game.name.items game.start game.delay) got after fault h) (NothingPut refl nothing)
           where
             same_why : (a b : OpenGameError) → ◌≡◌ {A = Result (Moment DraftView) OpenGameError} (Err a) (Err b) → a ≡ b
             same_why a b s = cc
-        by_seat why events opens are (SeatUnkept after v bytes h to_put keeps told) =
-            refuses (has_failed (found_keeper got) bytes) KeeperFailed why events (let f : ◌≡◌ {A = Result (Moment DraftView) OpenGameError} (Err why) (Err why_not.Keeper) = told in cc) are (opening_unkept (setup_of t game.name.items game.start game.delay) got after v bytes h to_put) (PutFails bytes keeps refl)
-        by_seat why events opens are (SeatNotHeld after v h kept told) =
-            not_held why events (let f : ◌≡◌ {A = Result (Moment DraftView) OpenGameError} (Err why) (Err why_not.OutOfMemory) = told in cc) opens are after v (opened facts place stamp (setup_of t game.name.items game.start game.delay) got after v put h kept)
-        by_seat why events opens are (SeatOpened after v h kept told) = absurd (let f : ◌≡◌ {A = Result (Moment DraftView) OpenGameError} (Err why) (Ok (moment v (settled after))) = told in cc)
+        by_seat why events new opens are (SeatUnkept after v bytes h to_put keeps told) =
+            refuses (has_failed (found_keeper got) bytes) KeeperFailed why events (let f : ◌≡◌ {A = Result (Moment DraftView) OpenGameError} (Err why) (Err why_not.Keeper) = told in cc) are (opening_unkept (setup_of t game.name.items game.start game.delay) got after v bytes h to_put) (PutFails mid new bytes there_mid keeps refl)
+        by_seat why events new opens are (SeatNotHeld after v h kept told) =
+            not_held why events (let f : ◌≡◌ {A = Result (Moment DraftView) OpenGameError} (Err why) (Err why_not.OutOfMemory) = told in cc) opens are after v (opened facts place stamp mid new there_mid (setup_of t game.name.items game.start game.delay) got after v put h kept)
+        by_seat why events new opens are (SeatOpened after v h kept told) = absurd (let f : ◌≡◌ {A = Result (Moment DraftView) OpenGameError} (Err why) (Ok (moment v (settled after))) = told in cc)
 
-      by_taking : (game : GameConfig) (looked rest events : List Event) (why : OpenGameError) → opens_game m ≡ true → facts.finds place stamp (Ok game) looked → IsGameOf t.manifest stamp game.name.items game.start game.delay → events ≡ looked ++ rest → TakesAndOpens facts t g stamp game rest (Err why) → Next stamp life (unopened stamp datagram why ∷ []) events None
-      by_taking game looked rest events why opens finds game_is are (TakesNone why' takes told) =
+      by_taking : (game : GameConfig) (looked rest events : List Event) (why : OpenGameError) (new : G) → opens_game m ≡ true → facts.finds place stamp (Ok game) looked → IsGameOf t.manifest stamp game.name.items game.start game.delay → events ≡ looked ++ rest → TakesAndOpens facts t g stamp game rest (Err why) new → Next stamp life (unopened stamp datagram why ∷ []) events None
+      by_taking game looked rest events why new opens finds game_is are (TakesNone why' takes told) =
           let same : why ≡ why' = let f : ◌≡◌ {A = Result (Moment DraftView) OpenGameError} (Err why) (Err why') = told in cc in
-          strange_as life shut why true true events (NotTaken game looked finds g refl why' rest takes are) opens
-          (record { games = g; there = refl; events = rest; takes = subst (λ (w : OpenGameError). facts.takes g stamp (Err w) rest) (sym same) takes }, record { game = game; told = (looked, finds); is = game_is })
-      by_taking game looked rest events why opens finds game_is are (TakesOne taken put got takes seat is_rest) =
-          by_seat game looked finds game_is taken put got takes why events opens (are ∙ ap (λ (l : List Event). looked ++ l) is_rest) seat
+          strange_as life shut why true true events (NotTaken game looked finds g refl why' rest new takes are) opens
+          (record { games = g; there = refl; events = rest; after = new; takes = subst (λ (w : OpenGameError). facts.takes g stamp (Err w) rest new) (sym same) takes }, record { game = game; told = (looked, finds); is = game_is })
+      by_taking game looked rest events why new opens finds game_is are (TakesOne taken put got mid takes seat is_rest) =
+          by_seat game looked finds game_is taken put got mid takes why events new opens (are ∙ ap (λ (l : List Event). looked ++ l) is_rest) seat
 
-      pub unopened_on : (events : List Event) (why : OpenGameError) → OpensFor facts t g m events (Err why) → Next stamp life (unopened stamp datagram why ∷ []) events None
-      unopened_on events why (OpensNone opens nothing told) = strange_as life shut why false false events (NotLooked nothing) opens ((let f : ◌≡◌ {A = Result (Moment DraftView) OpenGameError} (Err why) (Err why_not.NotOpen) = told in cc), refl)
-      unopened_on events why (NotFound why' opens finds told) =
+      pub unopened_on : (events : List Event) (why : OpenGameError) (new : G) → OpensFor facts t g m events (Err why) new → Next stamp life (unopened stamp datagram why ∷ []) events None
+      unopened_on events why new (OpensNone opens nothing still told) = strange_as life shut why false false events (NotLooked nothing) opens ((let f : ◌≡◌ {A = Result (Moment DraftView) OpenGameError} (Err why) (Err why_not.NotOpen) = told in cc), refl)
+      unopened_on events why new (NotFound why' opens finds still told) =
           let same : why ≡ why' = let f : ◌≡◌ {A = Result (Moment DraftView) OpenGameError} (Err why) (Err why') = told in cc in
           strange_as life shut why false true events (Looked (Err why') finds) opens (IsRefused (IsNotFound events (subst (λ (w : OpenGameError). facts.finds place stamp (Err w) events) (sym same) finds)))
-      unopened_on events why (IsOther game opens finds not told) =
+      unopened_on events why new (IsOther game opens finds not still told) =
           strange_as life shut why false true events (Looked (Ok game) finds) opens (IsAnother game (events, finds) not (let f : ◌≡◌ {A = Result (Moment DraftView) OpenGameError} (Err why) (Err why_not.OtherGame) = told in cc))
-      unopened_on events why (IsFound game looked rest opens finds game_is takes are) = by_taking game looked rest events why opens finds game_is are takes
+      unopened_on events why new (IsFound game looked rest opens finds game_is takes are) = by_taking game looked rest events why new opens finds game_is are takes
 
     -- ---- the game is open, or is opened
 
@@ -248,11 +253,11 @@ module _ {G : Type 0} (facts : GamesFacts G) (t : CommonView) (g : G) where
       is_at : IsOpenAt at here
 
     module _ (life : Life) (shut : IsNotOpen life) (at : Moment DraftView) where
-      reached : (game : GameConfig) (looked taken put events : List Event) (got : Option (List ℕ)) → facts.finds place stamp (Ok game) looked → IsGameOf t.manifest stamp game.name.items game.start game.delay → facts.takes g stamp (Ok got) taken → events ≡ looked ++ (taken ++ put) → OpensSeat facts place stamp (setup_of t game.name.items game.start game.delay) (found_draft got) put (Ok at) → Reaches life at events
-      reached game looked taken put events got finds game_is takes are (SeatRefused after fault h nothing told) = absurd (let f : ◌≡◌ {A = Result (Moment DraftView) OpenGameError} (Ok at) (Err (unopened_by fault)) = told in cc)
-      reached game looked taken put events got finds game_is takes are (SeatUnkept after v bytes h to_put keeps told) = absurd (let f : ◌≡◌ {A = Result (Moment DraftView) OpenGameError} (Ok at) (Err why_not.Keeper) = told in cc)
-      reached game looked taken put events got finds game_is takes are (SeatNotHeld after v h kept told) = absurd (let f : ◌≡◌ {A = Result (Moment DraftView) OpenGameError} (Ok at) (Err why_not.OutOfMemory) = told in cc)
-      reached game looked taken put events got finds game_is takes are (SeatOpened after v h kept told) = by (opened facts place stamp (setup_of t game.name.items game.start game.delay) got after v put h kept)
+      reached : (game : GameConfig) (looked taken put events : List Event) (got : Option (List ℕ)) (mid new : G) → facts.finds place stamp (Ok game) looked → IsGameOf t.manifest stamp game.name.items game.start game.delay → facts.takes g stamp (Ok got) taken mid → events ≡ looked ++ (taken ++ put) → OpensSeat facts mid stamp (setup_of t game.name.items game.start game.delay) (found_draft got) put (Ok at) new → Reaches life at events
+      reached game looked taken put events got mid new finds game_is takes are (SeatRefused after fault h nothing same told) = absurd (let f : ◌≡◌ {A = Result (Moment DraftView) OpenGameError} (Ok at) (Err (unopened_by fault)) = told in cc)
+      reached game looked taken put events got mid new finds game_is takes are (SeatUnkept after v bytes h to_put keeps told) = absurd (let f : ◌≡◌ {A = Result (Moment DraftView) OpenGameError} (Ok at) (Err why_not.Keeper) = told in cc)
+      reached game looked taken put events got mid new finds game_is takes are (SeatNotHeld after v h kept told) = absurd (let f : ◌≡◌ {A = Result (Moment DraftView) OpenGameError} (Ok at) (Err why_not.OutOfMemory) = told in cc)
+      reached game looked taken put events got mid new finds game_is takes are (SeatOpened after v h kept told) = by (opened facts place stamp mid new (there_mid life shut game looked finds game_is taken put got mid takes) (setup_of t game.name.items game.start game.delay) got after v put h kept)
         where
           same : at ≡ moment v (settled after)
           same = let f : ◌≡◌ {A = Result (Moment DraftView) OpenGameError} (Ok at) (Ok (moment v (settled after))) = told in cc
@@ -260,31 +265,31 @@ module _ {G : Type 0} (facts : GamesFacts G) (t : CommonView) (g : G) where
           by : IsOpened facts place stamp (setup_of t game.name.items game.start game.delay) got after v put → Reaches life at events
           by x = record {
             here = moment v x.now;
-            acts = Opens stamp (opening_to life shut game looked finds game_is taken put got takes x.now) v ∷ [];
-            on = opens_on life shut game looked finds game_is taken put got takes after v events are x;
+            acts = Opens stamp (opening_to life shut game looked finds game_is taken put got mid takes x.now) v ∷ [];
+            on = opens_on life shut game looked finds game_is taken put got mid takes after v events are x;
             is_at = record { same = same ∙ ap (λ (d : DraftView). moment v d) x.left; kept = x.none; runs = x.runs };
           }
 
-      reached_taking : (game : GameConfig) (looked rest events : List Event) → facts.finds place stamp (Ok game) looked → IsGameOf t.manifest stamp game.name.items game.start game.delay → events ≡ looked ++ rest → TakesAndOpens facts t g stamp game rest (Ok at) → Reaches life at events
-      reached_taking game looked rest events finds game_is are (TakesNone why takes told) = absurd (let f : ◌≡◌ {A = Result (Moment DraftView) OpenGameError} (Ok at) (Err why) = told in cc)
-      reached_taking game looked rest events finds game_is are (TakesOne taken put got takes seat is_rest) = reached game looked taken put events got finds game_is takes (are ∙ ap (λ (l : List Event). looked ++ l) is_rest) seat
+      reached_taking : (game : GameConfig) (looked rest events : List Event) (new : G) → facts.finds place stamp (Ok game) looked → IsGameOf t.manifest stamp game.name.items game.start game.delay → events ≡ looked ++ rest → TakesAndOpens facts t g stamp game rest (Ok at) new → Reaches life at events
+      reached_taking game looked rest events new finds game_is are (TakesNone why takes told) = absurd (let f : ◌≡◌ {A = Result (Moment DraftView) OpenGameError} (Ok at) (Err why) = told in cc)
+      reached_taking game looked rest events new finds game_is are (TakesOne taken put got mid takes seat is_rest) = reached game looked taken put events got mid new finds game_is takes (are ∙ ap (λ (l : List Event). looked ++ l) is_rest) seat
 
-      reached_for : (events : List Event) → OpensFor facts t g m events (Ok at) → Reaches life at events
-      reached_for events (OpensNone opens nothing told) = absurd (let f : ◌≡◌ {A = Result (Moment DraftView) OpenGameError} (Ok at) (Err why_not.NotOpen) = told in cc)
-      reached_for events (NotFound why opens finds told) = absurd (let f : ◌≡◌ {A = Result (Moment DraftView) OpenGameError} (Ok at) (Err why) = told in cc)
-      reached_for events (IsOther game opens finds not told) = absurd (let f : ◌≡◌ {A = Result (Moment DraftView) OpenGameError} (Ok at) (Err why_not.OtherGame) = told in cc)
-      reached_for events (IsFound game looked rest opens finds game_is takes are) = reached_taking game looked rest events finds game_is are takes
+      reached_for : (events : List Event) (new : G) → OpensFor facts t g m events (Ok at) new → Reaches life at events
+      reached_for events new (OpensNone opens nothing still told) = absurd (let f : ◌≡◌ {A = Result (Moment DraftView) OpenGameError} (Ok at) (Err why_not.NotOpen) = told in cc)
+      reached_for events new (NotFound why opens finds still told) = absurd (let f : ◌≡◌ {A = Result (Moment DraftView) OpenGameError} (Ok at) (Err why) = told in cc)
+      reached_for events new (IsOther game opens finds not still told) = absurd (let f : ◌≡◌ {A = Result (Moment DraftView) OpenGameError} (Ok at) (Err why_not.OtherGame) = told in cc)
+      reached_for events new (IsFound game looked rest opens finds game_is takes are) = reached_taking game looked rest events new finds game_is are takes
 
-    has_game : (was : Option (Moment DraftView)) (life : Life) (at : Moment DraftView) (events : List Event) → IsAt was life → HasGame facts t g m was events at → Reaches life at events
-    has_game (Some x) Fresh at events a h = absurd a
-    has_game (Some x) (Shut left) at events a h = absurd a
-    has_game (Some x) (Open here) at events a h = record {
+    has_game : (was : Option (Moment DraftView)) (life : Life) (at : Moment DraftView) (events : List Event) (new : G) → IsAt was life → HasGame facts t g m was events at new → Reaches life at events
+    has_game (Some x) Fresh at events new a h = absurd a
+    has_game (Some x) (Shut left) at events new a h = absurd a
+    has_game (Some x) (Open here) at events new a h = record {
       here = here;
       acts = [];
       on = subst (λ (l : List Event). GoesOn facts place t stamp (Open here) [] [] l (Open here)) (sym h.1) (on_nothing facts place t stamp (Open here));
       is_at = record { same = h.0 ∙ a.same; kept = a.kept; runs = a.runs };
     }
-    has_game None life at events a h = reached_for life a at events h
+    has_game None life at events new a h = reached_for life a at events new h
 
     -- ---- by its fate
 
@@ -295,14 +300,14 @@ module _ {G : Type 0} (facts : GamesFacts G) (t : CommonView) (g : G) where
     same_message m' h = let f : ◌≡◌ {A = Result Message MessageFault} (Ok m') (Ok m) = sym h ∙ is in cc
 
     module _ (was now : Option (Moment DraftView)) (life : Life) (events : List Event) (isat : IsAt was life) where
-      answered_fate : (first rest : List Event) (at after : Moment DraftView) (told : Told) (is_kept : Bool) → HasGame facts t g m was first at → AnswersBy facts g stamp at m told after is_kept rest → events ≡ first ++ rest → now ≡ fate_leaves (Answered stamp (exchange datagram told after) is_kept) → Next stamp life (answer_reply after told is_kept ∷ []) events now
-      answered_fate first rest at after told is_kept has answers are own = by (has_game was life at first isat has)
+      answered_fate : (first rest : List Event) (at after : Moment DraftView) (told : Told) (is_kept : Bool) (mid new : G) → HasGame facts t g m was first at mid → AnswersBy facts mid stamp at m told after is_kept rest new → events ≡ first ++ rest → now ≡ fate_leaves (Answered stamp (exchange datagram told after) is_kept) → Next stamp life (answer_reply after told is_kept ∷ []) events now
+      answered_fate first rest at after told is_kept mid new has answers are own = by (has_game was life at first mid isat has)
         where
           by : Reaches life at first → Next stamp life (answer_reply after told is_kept ∷ []) events now
           by r =
               let v = r.here.arbiter in
               let returns : ReturnsAnswer draft_facts (moment v (found_draft r.here.keeper.kept)) (answer_to_any v m) told after = subst (λ (a : Moment DraftView). ReturnsAnswer draft_facts a (answer_to_any a.arbiter m) told after) r.is_at.same answers.answers in
-              let c : Carried facts place stamp v r.here.keeper (answer_at v datagram) told after is_kept rest = carried facts place stamp v r.here.keeper r.is_at.runs (answer_at v datagram) told after is_kept rest (subst (λ (a : Answer). ReturnsAnswer draft_facts (moment v (found_draft r.here.keeper.kept)) a told after) (answer_is v) returns) answers.kept in
+              let c : Carried facts place stamp v r.here.keeper (answer_at v datagram) told after is_kept rest = carried facts place stamp v r.here.keeper r.is_at.runs mid new (has_there facts place t g mid m was first at has (AtPlace refl)) (answer_at v datagram) told after is_kept rest (subst (λ (a : Answer). ReturnsAnswer draft_facts (moment v (found_draft r.here.keeper.kept)) a told after) (answer_is v) returns) answers.kept in
               let n : Next stamp (Open r.here) (answer_reply after told is_kept ∷ []) rest now = answered_on r.here told after is_kept rest c r.is_at.kept now own in
               record {
                 acts = r.acts ++ n.acts;
@@ -311,19 +316,19 @@ module _ {G : Type 0} (facts : GamesFacts G) (t : CommonView) (g : G) where
                 at = n.at;
               }
 
-      pub fated : (fate : Fate) → GoesTo facts t g datagram was events fate → now ≡ fate_leaves fate → Next stamp life (fate_reply fate ∷ []) events now
-      fated fate (IsUnread fault h nothing f) own = absurd (let x : ◌≡◌ {A = Result Message MessageFault} (Ok m) (Err fault) = sym is ∙ h in cc)
-      fated fate (IsUnopened m' why h none opens f) own =
+      pub fated : (fate : Fate) (new : G) → GoesTo facts t g datagram was events fate new → now ≡ fate_leaves fate → Next stamp life (fate_reply fate ∷ []) events now
+      fated fate new (IsUnread fault h nothing still f) own = absurd (let x : ◌≡◌ {A = Result Message MessageFault} (Ok m) (Err fault) = sym is ∙ h in cc)
+      fated fate new (IsUnopened m' why h none opens f) own =
           let same : m' ≡ m = same_message m' h in
           let fate_is : fate ≡ Unopened stamp why = f ∙ ap (λ (x : Message). Unopened (stamp_in x) why) same in
-          let opens_it : OpensFor facts t g m events (Err why) = subst (λ (x : Message). OpensFor facts t g x events (Err why)) same opens in
+          let opens_it : OpensFor facts t g m events (Err why) new = subst (λ (x : Message). OpensFor facts t g x events (Err why) new) same opens in
           let gone : now ≡ None = own ∙ ap fate_leaves fate_is in
           subst (λ (x : Fate). Next stamp life (fate_reply x ∷ []) events now) (sym fate_is)
-          (subst (Next stamp life (unopened stamp datagram why ∷ []) events) (sym gone) (unopened_on life (subst (λ (w : Option (Moment DraftView)). IsAt w life) none isat) events why opens_it))
-      fated fate (IsAnswered m' first rest at after told is_kept h has answers are f) own =
+          (subst (Next stamp life (unopened stamp datagram why ∷ []) events) (sym gone) (unopened_on life (subst (λ (w : Option (Moment DraftView)). IsAt w life) none isat) events why new opens_it))
+      fated fate new (IsAnswered m' first rest at after told is_kept mid h has answers are f) own =
           let same : m' ≡ m = same_message m' h in
           let fate_is : fate ≡ Answered stamp (exchange datagram told after) is_kept = f ∙ ap (λ (x : Message). Answered (stamp_in x) (exchange datagram told after) is_kept) same in
           subst (λ (x : Fate). Next stamp life (fate_reply x ∷ []) events now) (sym fate_is)
-          (answered_fate first rest at after told is_kept (subst (λ (x : Message). HasGame facts t g x was first at) same has)
-          (subst (λ (x : Message). AnswersBy facts g (stamp_in x) at x told after is_kept rest) same answers) are
+          (answered_fate first rest at after told is_kept mid new (subst (λ (x : Message). HasGame facts t g x was first at mid) same has)
+          (subst (λ (x : Message). AnswersBy facts mid (stamp_in x) at x told after is_kept rest new) same answers) are
           (own ∙ ap fate_leaves fate_is))

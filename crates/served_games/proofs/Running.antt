@@ -55,10 +55,10 @@ module _ {T P F K S L G : Type 0} (o : Outside T P F K S L) (facts : GamesFacts 
       own : IsAt (game_at old (stamp_in m)) life → Goal (stamp_in m)
       own at =
           let stamp = stamp_in m in
-          let goes : GoesTo facts (common old) old.shared.games heard.datagram (game_at old stamp) heard.events h.fate = subst (λ (r : Result Message MessageFault). GoesTo facts (common old) old.shared.games heard.datagram (was_open old r) heard.events h.fate) is h.goes in
+          let goes : GoesTo facts (common old) old.shared.games heard.datagram (game_at old stamp) heard.events h.fate new.shared.games = subst (λ (r : Result Message MessageFault). GoesTo facts (common old) old.shared.games heard.datagram (was_open old r) heard.events h.fate new.shared.games) is h.goes in
           let left : game_at new stamp ≡ fate_leaves h.fate = subst (λ (r : Result Message MessageFault). was_open new r ≡ fate_leaves h.fate) is h.own in
           let its : is_for stamp heard ≡ true = ap (λ (r : Result Message MessageFault). is_stamp stamp (stamp_by r)) is ∙ itself stamp in
-          let n = fated facts (common old) old.shared.games heard.datagram m is (game_at old stamp) (game_at new stamp) life heard.events at h.fate goes left in
+          let n = fated facts (common old) old.shared.games heard.datagram m is (game_at old stamp) (game_at new stamp) life heard.events at h.fate new.shared.games goes left in
           subst (λ (b : Bool). Next facts (common old) old.shared.games stamp life (cond b (reply_to heard ∷ []) []) (cond b heard.events []) (game_at new stamp)) (sym its)
           (subst (λ (r : DatagramReply). Next facts (common old) old.shared.games stamp life (r ∷ []) heard.events (game_at new stamp)) reply_is n)
 

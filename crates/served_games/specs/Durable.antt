@@ -22,7 +22,7 @@ use Rattle.game_server.specs.Seats.{common, open_at}
 use Rattle.game_server.specs.declared.seat.Seat.{Seat}
 use Rattle.game_server.specs.declared.server.Server.{Server}
 use Rattle.served_games.specs.Lasting.{IsToldStill}
-use Rattle.served_games.specs.PlaceKeepers.{Follows, PlaceKeeper, found_keeper}
+use Rattle.served_games.specs.PlaceKeepers.{Follows, IsThere, PlaceKeeper, found_keeper}
 use Rattle.served_games.specs.ServedGames.{AreOverLeft, IsAt, OpenedGame, PlayedGame, acts_in, all_acts, game_at, heard_in_turns}
 
 -- where two are the same it is so, and where they aren't it is otherwise
@@ -117,27 +117,27 @@ pub record KeepsAtOnce {G : Type 0} (facts : GamesFacts G) : Type 0 where
   pub finds : (place : facts.Place) (stamp other : List ℕ) (result : Result GameConfig OpenGameError) (events past : List Event)
       → facts.finds place other result events → StaysFound (facts.places place stamp) stamp past events
   -- what is taken may be found, and is found then
-  pub takes : (place : facts.Place) (g : G) → facts.place g ≡ place
-      → (stamp : List ℕ) (got : Option (List ℕ)) (events past : List Event) → facts.takes g stamp (Ok got) events
+  pub takes : (place : facts.Place) (g now : G) → IsThere facts place g
+      → (stamp : List ℕ) (got : Option (List ℕ)) (events past : List Event) → facts.takes g stamp (Ok got) events now
       → IsDurableAfter (facts.places place stamp) stamp past events
       → MayFind (facts.places place stamp) stamp past got × ((found : Option (List ℕ)) → MayFind (facts.places place stamp) stamp (behind past events) found → found ≡ got)
-  pub withholds : (place : facts.Place) (g : G) → facts.place g ≡ place
-      → (stamp : List ℕ) (why : OpenGameError) (events past : List Event) → facts.takes g stamp (Err why) events
+  pub withholds : (place : facts.Place) (g now : G) → IsThere facts place g
+      → (stamp : List ℕ) (why : OpenGameError) (events past : List Event) → facts.takes g stamp (Err why) events now
       → StaysFound (facts.places place stamp) stamp past events
-  pub keeps : (place : facts.Place) (stamp bytes : List ℕ) (events past : List Event) → facts.keeps place stamp bytes true events
+  pub keeps : (place : facts.Place) (g now : G) → IsThere facts place g → (stamp bytes : List ℕ) (events past : List Event) → facts.keeps g stamp bytes true events now
       → (found : Option (List ℕ)) → MayFind (facts.places place stamp) stamp (behind past events) found → found ≡ Some bytes
-  pub fails : (place : facts.Place) (stamp bytes : List ℕ) (events past : List Event) → facts.keeps place stamp bytes false events
+  pub fails : (place : facts.Place) (g now : G) → IsThere facts place g → (stamp bytes : List ℕ) (events past : List Event) → facts.keeps g stamp bytes false events now
       → (found : Option (List ℕ)) → MayFind (facts.places place stamp) stamp (behind past events) found → (found ≡ Some bytes) ⊎ MayFind (facts.places place stamp) stamp past found
   -- of two games that are found there each record is kept elsewhere
-  pub takes_apart : (place : facts.Place) (g : G) → facts.place g ≡ place → (stamp other : List ℕ) → IsToldAt facts place stamp
+  pub takes_apart : (place : facts.Place) (g now : G) → IsThere facts place g → (stamp other : List ℕ) → IsToldAt facts place stamp
       → IsToldAt facts place other → bytes_eq other stamp ≡ false
       → (result : Result (Option (List ℕ)) OpenGameError) (events past : List Event)
-      → facts.takes g other result events → StaysFound (facts.places place stamp) stamp past events
-  pub keeps_apart : (place : facts.Place) (stamp other bytes : List ℕ) → IsToldAt facts place stamp → IsToldAt facts place other
-      → bytes_eq other stamp ≡ false → (is_done : Bool) (events past : List Event)
-      → facts.keeps place other bytes is_done events → StaysFound (facts.places place stamp) stamp past events
-  pub commits : (place : facts.Place) (g : G) → facts.place g ≡ place
-      → (stamp : List ℕ) (told : Result (Unit {0}) Uncommitted) (events past : List Event) → facts.commits g told events
+      → facts.takes g other result events now → StaysFound (facts.places place stamp) stamp past events
+  pub keeps_apart : (place : facts.Place) (g now : G) → IsThere facts place g → (stamp other bytes : List ℕ) → IsToldAt facts place stamp
+      → IsToldAt facts place other → bytes_eq other stamp ≡ false → (is_done : Bool) (events past : List Event)
+      → facts.keeps g other bytes is_done events now → StaysFound (facts.places place stamp) stamp past events
+  pub commits : (place : facts.Place) (g now : G) → IsThere facts place g
+      → (stamp : List ℕ) (told : Result (Unit {0}) Uncommitted) (events past : List Event) → facts.commits g told events now
       → StaysFound (facts.places place stamp) stamp past events
 
 -- ---- a game in a run

@@ -1,5 +1,5 @@
 -- A game's record as the timeline has it, as a keeper (this project's own).
-use Rattle.std.specs.Prelude.{◌≡◌, ◌⊎◌, ℕ, suc, List, Option, Some, None, Ok, Err}
+use Rattle.std.specs.Prelude.{◌≡◌, ◌⊎◌, ℕ, Bool, suc, List, Option, Some, None, Result, Ok, Err}
 use Rattle.arbiter_core.specs.Keeping.{KeeperFacts}
 use Rattle.arbiter_core.specs.Opens.{IsOpening}
 use Rattle.arbiter_core.specs.Views.{View}
@@ -48,13 +48,20 @@ place_facts = record {
 abbrev pub Follows : PlaceKeeper → PlaceKeeper → Type 0
 Follows left next = (next.kept ≡ left.kept) ⊎ ((bytes : List ℕ) × (left.unkept ≡ Some bytes) × (next.kept ≡ Some bytes))
 
+-- games are at a place, or are what calls have made of such
+pub data IsThere {G : Type 0} (facts : GamesFacts G) (place : facts.Place) : G → Type 0 where
+  AtPlace : {now : G} → facts.place now ≡ place → IsThere facts place now
+  BehindTake : {now : G} (old : G) (stamp : List ℕ) (result : Result (Option (List ℕ)) OpenGameError) (events : List Event) → IsThere facts place old → facts.takes old stamp result events now → IsThere facts place now
+  BehindPut : {now : G} (old : G) (stamp bytes : List ℕ) (is_done : Bool) (events : List Event) → IsThere facts place old → facts.keeps old stamp bytes is_done events now → IsThere facts place now
+
 module _ {G : Type 0} (facts : GamesFacts G) (place : facts.Place) where
   -- for this reason the record of the game with this stamp can't be had there
   pub record Withholds (stamp : List ℕ) (why : OpenGameError) : Type 0 where
     pub games : G
     pub there : facts.place games ≡ place
     pub events : List Event
-    pub takes : facts.takes games stamp (Err why) events
+    pub after : G
+    pub takes : facts.takes games stamp (Err why) events after
 
   -- Over its record an arbiter of the game was opened, and what that had to put was kept. But memory was refused to keep the game open.
   pub record IsNotHeld (stamp : List ℕ) (why : OpenGameError) : Type 0 where
@@ -68,7 +75,8 @@ module _ {G : Type 0} (facts : GamesFacts G) (place : facts.Place) where
     pub there : facts.place games ≡ place
     pub got : Option (List ℕ)
     pub taken : List Event
-    pub takes : facts.takes games stamp (Ok got) taken
+    pub after : G
+    pub takes : facts.takes games stamp (Ok got) taken after
     pub now : PlaceKeeper
     pub arbiter : View
     pub opening : IsOpening place_facts (setup_of common game.name.items game.start game.delay) (found_keeper got) now (Ok arbiter)
@@ -85,7 +93,8 @@ module _ {G : Type 0} (facts : GamesFacts G) (place : facts.Place) where
     pub there : facts.place games ≡ place
     pub why : Uncommitted
     pub events : List Event
-    pub fails : facts.commits games (Err why) events
+    pub after : G
+    pub fails : facts.commits games (Err why) events after
 
   -- what is known of games at a place
   abbrev pub place_keepers : Keepers PlaceKeeper

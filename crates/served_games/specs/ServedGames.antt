@@ -24,7 +24,7 @@ use Rattle.game_server.specs.Rounds.{Heard}
 use Rattle.game_server.specs.Runs.{Answers as AnswersRound, Deed, HearsNone, InTurns, Turn}
 use Rattle.game_server.specs.Seats.{common, open_at, seat_moment}
 use Rattle.game_server.specs.declared.server.Server.{Server}
-use Rattle.served_games.specs.PlaceKeepers.{Follows, PlaceKeeper, has_failed, has_put, place_keepers}
+use Rattle.served_games.specs.PlaceKeepers.{Follows, IsThere, PlaceKeeper, has_failed, has_put, place_keepers}
 
 -- ---- where a game is
 
@@ -85,8 +85,8 @@ module _ {G : Type 0} (facts : GamesFacts G) (place : facts.Place) (stamp : List
   -- a record of the game is kept by these events, or that fails; or none is put
   pub data PutsBy (before after : PlaceKeeper) (events : List Event) : Type 0 where
     NothingPut : after ≡ before → events ≡ [] → PutsBy before after events
-    IsPut : (bytes : List ℕ) → facts.keeps place stamp bytes true events → after ≡ has_put before bytes → PutsBy before after events
-    PutFails : (bytes : List ℕ) → facts.keeps place stamp bytes false events → after ≡ has_failed before bytes → PutsBy before after events
+    IsPut : (games now : G) (bytes : List ℕ) → IsThere facts place games → facts.keeps games stamp bytes true events now → after ≡ has_put before bytes → PutsBy before after events
+    PutFails : (games now : G) (bytes : List ℕ) → IsThere facts place games → facts.keeps games stamp bytes false events now → after ≡ has_failed before bytes → PutsBy before after events
 
   -- the game is looked for, its record is taken, and what opening an arbiter over it has to put is kept, or that fails
   pub record OpensBy (o : Opening PlaceKeeper) (events : List Event) : Type 0 where
@@ -99,7 +99,8 @@ module _ {G : Type 0} (facts : GamesFacts G) (place : facts.Place) (stamp : List
     pub games : G
     pub there : facts.place games ≡ place
     pub taken : List Event
-    pub takes : facts.takes games stamp (Ok o.before.kept) taken
+    pub after : G
+    pub takes : facts.takes games stamp (Ok o.before.kept) taken after
     pub put : List Event
     pub puts : PutsBy o.before o.now put
     pub are : events ≡ looked ++ (taken ++ put)
@@ -109,7 +110,7 @@ module _ {G : Type 0} (facts : GamesFacts G) (place : facts.Place) (stamp : List
     NotLooked : events ≡ [] → LooksInVain events
     Looked : (result : Result GameConfig OpenGameError) → facts.finds place stamp result events → LooksInVain events
     NotTaken : (game : GameConfig) (looked : List Event) → facts.finds place stamp (Ok game) looked → (games : G) → facts.place games ≡ place
-        → (why : OpenGameError) (taken : List Event) → facts.takes games stamp (Err why) taken → events ≡ looked ++ taken → LooksInVain events
+        → (why : OpenGameError) (taken : List Event) (after : G) → facts.takes games stamp (Err why) taken after → events ≡ looked ++ taken → LooksInVain events
 
   -- an arbiter of which a put failed is down
   abbrev pub AnswersMake : GameStatus PlaceKeeper → Moment PlaceKeeper → List Event → Type 0
