@@ -25,7 +25,7 @@ pub if_same : (path : List ℕ) (so otherwise : Type 0) → IfSame path path so 
 if_same path so otherwise (inl h) = h.1
 if_same path so otherwise (inr h) = absurd (h.0 refl)
 
-if_other : (a b : List ℕ) (so otherwise : Type 0) → a ≢ b → IfSame a b so otherwise → otherwise
+pub if_other : (a b : List ℕ) (so otherwise : Type 0) → a ≢ b → IfSame a b so otherwise → otherwise
 if_other a b so otherwise apart (inl h) = absurd (apart h.0)
 if_other a b so otherwise apart (inr h) = h.1
 

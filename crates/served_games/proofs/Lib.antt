@@ -15,3 +15,4 @@ pub mod AtOnce
 pub mod OneGames
 pub mod FolderRuns
 pub mod FileHistories
+pub mod InOrder

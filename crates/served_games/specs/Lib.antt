@@ -6,3 +6,4 @@ pub mod Unasked
 pub mod OneGames
 pub mod FolderRuns
 pub mod FileHistories
+pub mod InOrder

@@ -5,6 +5,7 @@ ghost use Rattle.game_folder.specs.OneGame.{one_game_facts};
 ghost use Rattle.served_games.specs.Durable.{GamesAreFound, KeepsAtOnce, RunsLast};
 ghost use Rattle.served_games.specs.FileHistories.{FilesAreDurable};
 ghost use Rattle.served_games.specs.FolderRuns.{FolderGamesKeepWhatTheyTold};
+ghost use Rattle.served_games.specs.InOrder.{StoreKeepsInOrder};
 ghost use Rattle.served_games.specs.Lasting.{EachLasts};
 ghost use Rattle.served_games.specs.OneGames.{OneGameKeepsWhatItTold};
 ghost use Rattle.served_games.specs.ServedGames.{GamesArePlayed, PlayedAreHosted};
@@ -80,4 +81,10 @@ pub fn one_game_keeps_what_it_told<S: System>(_system: &S)
 /// stops leaves what was there or its bytes, and nobody else writes it.
 pub fn files_are_durable<S: System>(_system: &S)
     ensures { FilesAreDurable (S.outside _system.now) }
+{}
+
+/// What is noted of games, and committed to a store, is kept in order, call by call: a taking finds what was put last, whether or not that is
+/// committed; behind a commit a start finds that too, and behind one that failed that or what it found before.
+pub fn store_games_keep_in_order<S: System>(_system: &S)
+    ensures { StoreKeepsInOrder (S.outside _system.now) }
 {}
