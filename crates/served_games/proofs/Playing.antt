@@ -24,7 +24,7 @@ use Rattle.game_folder.specs.Drafts.{DraftView, draft_facts, settled}
 use Rattle.game_folder.specs.Holdings.{GamesFacts}
 use Rattle.game_server.specs.Datagrams.{IsLeftOpen}
 use Rattle.game_server.specs.Fates.{Answered, AnswersBy, Fate, GoesTo, HasGame, IsAnswered, IsFound, IsOther, IsUnopened, IsUnread, NotFound, OpensFor, OpensNone, OpensSeat, SeatNotHeld, SeatOpened, SeatRefused, SeatUnkept, TakesAndOpens, TakesNone, TakesOne, Unopened, fate_leaves, fate_line, fate_outputs, found_draft, is_unput}
-use Rattle.served_games.specs.PlaceKeepers.{AtPlace, BehindTake, IsNotFound, IsThere, LacksArbiter, NotHeld, PlaceKeeper, found_keeper, has_failed, place_facts, place_keepers}
+use Rattle.served_games.specs.PlaceKeepers.{AtPlace, IsNotFound, IsThere, LacksArbiter, NotHeld, PlaceKeeper, found_keeper, has_failed, place_facts, place_keepers}
 use Rattle.served_games.specs.ServedGames.{GoesOn, IsAt, IsOpenAt, IsOverLeft, Looked, LooksInVain, NothingPut, NotLooked, NotTaken, OpensBy, PutFails, PutsBy}
 use Rattle.served_games.proofs.Carrying.{Carried, carried}
 use Rattle.served_games.proofs.Going.{Acts, Life, on_join, on_nothing}
@@ -75,7 +75,7 @@ module _ {G : Type 0} (facts : GamesFacts G) (t : CommonView) (g : G) where
     answer_reply after told is_kept =
         reply_with datagram (cond (is_unput after.keeper.to_put is_kept told) [] (outputs_of told)) (stamped stamp (cond (is_unput after.keeper.to_put is_kept told) refused_keeper (line_for told after.arbiter.kept)))
 
-    module _ (here : Moment PlaceKeeper) (told : Told) (after : Moment DraftView) (is_kept : Bool) (events : List Event) (c : Carried facts place stamp here.arbiter here.keeper (answer_at here.arbiter datagram) told after is_kept events) (unkept : here.keeper.unkept ≡ None) where
+    module _ (here : Moment PlaceKeeper) (told : Told) (after : Moment DraftView) (is_kept : Bool) (events : List Event) (games last : G) (there : IsThere facts place games) (c : Carried facts place stamp games last here.arbiter here.keeper (answer_at here.arbiter datagram) told after is_kept events) (unkept : here.keeper.unkept ≡ None) where
       abbrev lost : Bool
       lost = is_unput after.keeper.to_put is_kept told
 
@@ -91,7 +91,7 @@ module _ {G : Type 0} (facts : GamesFacts G) (t : CommonView) (g : G) where
         leads = refl;
         own = (refl, tt);
         replies_are = ap (λ (r : DatagramReply). r ∷ []) reply_is;
-        makes = (events, [], sym (append-nil events), (c.puts, λ up. c.none (sym c.down ∙ up) unkept), refl);
+        makes = (events, [], sym (append-nil events), (games, last, there, c.puts, λ up. c.none (sym c.down ∙ up) unkept), refl);
       }
 
       to_life : (b : Bool) → lost ≡ b → life_at e.after ≡ cond b (Shut e.after.keeper) (Open e.after)
@@ -139,9 +139,6 @@ module _ {G : Type 0} (facts : GamesFacts G) (t : CommonView) (g : G) where
 
     module _ (life : Life) (shut : IsNotOpen life) where
       module _ (game : GameConfig) (looked : List Event) (finds : facts.finds place stamp (Ok game) looked) (game_is : IsGameOf t.manifest stamp game.name.items game.start game.delay) (taken put : List Event) (got : Option (List ℕ)) (mid : G) (takes : facts.takes g stamp (Ok got) taken mid) where
-        there_mid : IsThere facts place mid
-        there_mid = BehindTake g stamp (Ok got) taken (AtPlace refl) takes
-
         abbrev opening_to : PlaceKeeper → Opening PlaceKeeper
         opening_to now = record { setup = setup_of t game.name.items game.start game.delay; before = found_keeper got; now = now }
 
@@ -154,11 +151,11 @@ module _ {G : Type 0} (facts : GamesFacts G) (t : CommonView) (g : G) where
           new_is = refl;
         }
 
-        opens_by_events : (now : PlaceKeeper) (events : List Event) → events ≡ looked ++ (taken ++ put) → PutsBy facts place stamp (found_keeper got) now put → OpensBy facts place stamp (opening_to now) events
-        opens_by_events now events are puts = record { game = game; name = refl; start = refl; delay = refl; looked = looked; finds = finds; games = g; there = refl; taken = taken; after = mid; takes = takes; put = put; puts = puts; are = are }
+        opens_by_events : (now : PlaceKeeper) (events : List Event) (last : G) → events ≡ looked ++ (taken ++ put) → PutsBy facts place stamp mid (found_keeper got) now put last → OpensBy facts place stamp (opening_to now) events
+        opens_by_events now events last are puts = record { game = game; name = refl; start = refl; delay = refl; looked = looked; finds = finds; games = g; there = refl; taken = taken; after = mid; takes = takes; put = put; last = last; puts = puts; are = are }
 
-        refuses : (now : PlaceKeeper) (fault : OpenFault) (why : OpenGameError) (events : List Event) → why ≡ unopened_by fault → events ≡ looked ++ (taken ++ put) → IsOpening place_facts (setup_of t game.name.items game.start game.delay) (found_keeper got) now (Err fault) → PutsBy facts place stamp (found_keeper got) now put → Next stamp life (unopened stamp datagram why ∷ []) events None
-        refuses now fault why events w are h puts = record {
+        refuses : (now : PlaceKeeper) (fault : OpenFault) (why : OpenGameError) (events : List Event) (last : G) → why ≡ unopened_by fault → events ≡ looked ++ (taken ++ put) → IsOpening place_facts (setup_of t game.name.items game.start game.delay) (found_keeper got) now (Err fault) → PutsBy facts place stamp mid (found_keeper got) now put last → Next stamp life (unopened stamp datagram why ∷ []) events None
+        refuses now fault why events last w are h puts = record {
           acts = Refuses stamp datagram (opening_to now) fault ∷ [];
           to = Shut now;
           on = record {
@@ -166,24 +163,24 @@ module _ {G : Type 0} (facts : GamesFacts G) (t : CommonView) (g : G) where
             leads = refl;
             own = (refl, tt);
             replies_are = ap (λ (x : OpenGameError). unopened stamp datagram x ∷ []) (sym w);
-            makes = (events, [], sym (append-nil events), opens_by_events now events are puts, refl);
+            makes = (events, [], sym (append-nil events), opens_by_events now events last are puts, refl);
           };
           at = tt;
         }
 
         -- an arbiter is opened over it
-        opens_on : (after : DraftView) (v : View) (events : List Event) → events ≡ looked ++ (taken ++ put) → (x : IsOpened facts place stamp (setup_of t game.name.items game.start game.delay) got after v put) → GoesOn facts place t stamp life (Opens stamp (opening_to x.now) v ∷ []) [] events (Open (moment v x.now))
-        opens_on after v events are x = record {
+        opens_on : (after : DraftView) (v : View) (events : List Event) (last : G) → events ≡ looked ++ (taken ++ put) → (x : IsOpened facts place stamp mid (setup_of t game.name.items game.start game.delay) got after v put last) → GoesOn facts place t stamp life (Opens stamp (opening_to x.now) v ∷ []) [] events (Open (moment v x.now))
+        opens_on after v events last are x = record {
           goes = λ left. (Open (moment v x.now), opens_to x.now (Ok v) x.opening left.0, refl);
           leads = refl;
           own = (refl, tt);
           replies_are = refl;
-          makes = (events, [], sym (append-nil events), (opens_by_events x.now events are x.puts, x.none), refl);
+          makes = (events, [], sym (append-nil events), (opens_by_events x.now events last are x.puts, x.none), refl);
         }
 
         -- but memory is refused to keep it open, so it is closed at once
-        lacks_it : (why : OpenGameError) → why ≡ why_not.OutOfMemory → (after : DraftView) (v : View) → IsOpened facts place stamp (setup_of t game.name.items game.start game.delay) got after v put → LacksArbiter facts place stamp why
-        lacks_it why memory after v x = NotHeld (record {
+        lacks_it : (why : OpenGameError) → why ≡ why_not.OutOfMemory → (after : DraftView) (v : View) (last : G) → IsOpened facts place stamp mid (setup_of t game.name.items game.start game.delay) got after v put last → LacksArbiter facts place stamp why
+        lacks_it why memory after v last x = NotHeld (record {
           memory = memory;
           common = t;
           game = game;
@@ -201,30 +198,30 @@ module _ {G : Type 0} (facts : GamesFacts G) (t : CommonView) (g : G) where
           opening = x.opening;
         })
 
-        not_held : (why : OpenGameError) (events : List Event) → why ≡ why_not.OutOfMemory → opens_game m ≡ true → events ≡ looked ++ (taken ++ put) → (after : DraftView) (v : View) → IsOpened facts place stamp (setup_of t game.name.items game.start game.delay) got after v put → Next stamp life (unopened stamp datagram why ∷ []) events None
-        not_held why events memory opens are after v x =
+        not_held : (why : OpenGameError) (events : List Event) (last : G) → why ≡ why_not.OutOfMemory → opens_game m ≡ true → events ≡ looked ++ (taken ++ put) → (after : DraftView) (v : View) → IsOpened facts place stamp mid (setup_of t game.name.items game.start game.delay) got after v put last → Next stamp life (unopened stamp datagram why ∷ []) events None
+        not_held why events last memory opens are after v x =
             let here = moment v x.now in
-            let s : Next stamp (Shut x.now) (unopened stamp datagram why ∷ []) [] None = strange_as (Shut x.now) tt why false true [] (NotLooked refl) opens (IsRefused (lacks_it why memory after v x)) in
+            let s : Next stamp (Shut x.now) (unopened stamp datagram why ∷ []) [] None = strange_as (Shut x.now) tt why false true [] (NotLooked refl) opens (IsRefused (lacks_it why memory after v last x)) in
             let rest : GoesOn facts place t stamp (Open here) (Closes stamp x.now ∷ s.acts) (unopened stamp datagram why ∷ []) [] s.to =
             on_join facts place t stamp (Open here) (Shut x.now) s.to (Closes stamp x.now ∷ []) s.acts [] (unopened stamp datagram why ∷ []) [] [] (closing stamp here) s.on in
             record {
               acts = Opens stamp (opening_to x.now) v ∷ Closes stamp x.now ∷ s.acts;
               to = s.to;
               on = subst (λ (l : List Event). GoesOn facts place t stamp life (Opens stamp (opening_to x.now) v ∷ Closes stamp x.now ∷ s.acts) (unopened stamp datagram why ∷ []) l s.to) (append-nil events)
-                  (on_join facts place t stamp life (Open here) s.to (Opens stamp (opening_to x.now) v ∷ []) (Closes stamp x.now ∷ s.acts) [] (unopened stamp datagram why ∷ []) events [] (opens_on after v events are x) rest);
+                  (on_join facts place t stamp life (Open here) s.to (Opens stamp (opening_to x.now) v ∷ []) (Closes stamp x.now ∷ s.acts) [] (unopened stamp datagram why ∷ []) events [] (opens_on after v events last are x) rest);
               at = s.at;
             }
 
         by_seat : (why : OpenGameError) (events : List Event) (new : G) → opens_game m ≡ true → events ≡ looked ++ (taken ++ put) → OpensSeat facts mid stamp (setup_of t game.name.items game.start game.delay) (found_draft got) put (Err why) new → Next stamp life (unopened stamp datagram why ∷ []) events None
         by_seat why events new opens are (SeatRefused after fault h nothing same told) =
-            refuses (found_keeper got) fault why events (same_why why (unopened_by fault) told) are (opening_refused (setup_of t game.name.items game.start game.delay) got after fault h) (NothingPut refl nothing)
+            refuses (found_keeper got) fault why events new (same_why why (unopened_by fault) told) are (opening_refused (setup_of t game.name.items game.start game.delay) got after fault h) (NothingPut refl nothing same)
           where
             same_why : (a b : OpenGameError) → ◌≡◌ {A = Result (Moment DraftView) OpenGameError} (Err a) (Err b) → a ≡ b
             same_why a b s = cc
         by_seat why events new opens are (SeatUnkept after v bytes h to_put keeps told) =
-            refuses (has_failed (found_keeper got) bytes) KeeperFailed why events (let f : ◌≡◌ {A = Result (Moment DraftView) OpenGameError} (Err why) (Err why_not.Keeper) = told in cc) are (opening_unkept (setup_of t game.name.items game.start game.delay) got after v bytes h to_put) (PutFails mid new bytes there_mid keeps refl)
+            refuses (has_failed (found_keeper got) bytes) KeeperFailed why events new (let f : ◌≡◌ {A = Result (Moment DraftView) OpenGameError} (Err why) (Err why_not.Keeper) = told in cc) are (opening_unkept (setup_of t game.name.items game.start game.delay) got after v bytes h to_put) (PutFails bytes keeps refl)
         by_seat why events new opens are (SeatNotHeld after v h kept told) =
-            not_held why events (let f : ◌≡◌ {A = Result (Moment DraftView) OpenGameError} (Err why) (Err why_not.OutOfMemory) = told in cc) opens are after v (opened facts place stamp mid new there_mid (setup_of t game.name.items game.start game.delay) got after v put h kept)
+            not_held why events new (let f : ◌≡◌ {A = Result (Moment DraftView) OpenGameError} (Err why) (Err why_not.OutOfMemory) = told in cc) opens are after v (opened facts place stamp mid new (setup_of t game.name.items game.start game.delay) got after v put h kept)
         by_seat why events new opens are (SeatOpened after v h kept told) = absurd (let f : ◌≡◌ {A = Result (Moment DraftView) OpenGameError} (Err why) (Ok (moment v (settled after))) = told in cc)
 
       by_taking : (game : GameConfig) (looked rest events : List Event) (why : OpenGameError) (new : G) → opens_game m ≡ true → facts.finds place stamp (Ok game) looked → IsGameOf t.manifest stamp game.name.items game.start game.delay → events ≡ looked ++ rest → TakesAndOpens facts t g stamp game rest (Err why) new → Next stamp life (unopened stamp datagram why ∷ []) events None
@@ -257,16 +254,16 @@ module _ {G : Type 0} (facts : GamesFacts G) (t : CommonView) (g : G) where
       reached game looked taken put events got mid new finds game_is takes are (SeatRefused after fault h nothing same told) = absurd (let f : ◌≡◌ {A = Result (Moment DraftView) OpenGameError} (Ok at) (Err (unopened_by fault)) = told in cc)
       reached game looked taken put events got mid new finds game_is takes are (SeatUnkept after v bytes h to_put keeps told) = absurd (let f : ◌≡◌ {A = Result (Moment DraftView) OpenGameError} (Ok at) (Err why_not.Keeper) = told in cc)
       reached game looked taken put events got mid new finds game_is takes are (SeatNotHeld after v h kept told) = absurd (let f : ◌≡◌ {A = Result (Moment DraftView) OpenGameError} (Ok at) (Err why_not.OutOfMemory) = told in cc)
-      reached game looked taken put events got mid new finds game_is takes are (SeatOpened after v h kept told) = by (opened facts place stamp mid new (there_mid life shut game looked finds game_is taken put got mid takes) (setup_of t game.name.items game.start game.delay) got after v put h kept)
+      reached game looked taken put events got mid new finds game_is takes are (SeatOpened after v h kept told) = by (opened facts place stamp mid new (setup_of t game.name.items game.start game.delay) got after v put h kept)
         where
           same : at ≡ moment v (settled after)
           same = let f : ◌≡◌ {A = Result (Moment DraftView) OpenGameError} (Ok at) (Ok (moment v (settled after))) = told in cc
 
-          by : IsOpened facts place stamp (setup_of t game.name.items game.start game.delay) got after v put → Reaches life at events
+          by : IsOpened facts place stamp mid (setup_of t game.name.items game.start game.delay) got after v put new → Reaches life at events
           by x = record {
             here = moment v x.now;
             acts = Opens stamp (opening_to life shut game looked finds game_is taken put got mid takes x.now) v ∷ [];
-            on = opens_on life shut game looked finds game_is taken put got mid takes after v events are x;
+            on = opens_on life shut game looked finds game_is taken put got mid takes after v events new are x;
             is_at = record { same = same ∙ ap (λ (d : DraftView). moment v d) x.left; kept = x.none; runs = x.runs };
           }
 
@@ -307,8 +304,9 @@ module _ {G : Type 0} (facts : GamesFacts G) (t : CommonView) (g : G) where
           by r =
               let v = r.here.arbiter in
               let returns : ReturnsAnswer draft_facts (moment v (found_draft r.here.keeper.kept)) (answer_to_any v m) told after = subst (λ (a : Moment DraftView). ReturnsAnswer draft_facts a (answer_to_any a.arbiter m) told after) r.is_at.same answers.answers in
-              let c : Carried facts place stamp v r.here.keeper (answer_at v datagram) told after is_kept rest = carried facts place stamp v r.here.keeper r.is_at.runs mid new (has_there facts place t g mid m was first at has (AtPlace refl)) (answer_at v datagram) told after is_kept rest (subst (λ (a : Answer). ReturnsAnswer draft_facts (moment v (found_draft r.here.keeper.kept)) a told after) (answer_is v) returns) answers.kept in
-              let n : Next stamp (Open r.here) (answer_reply after told is_kept ∷ []) rest now = answered_on r.here told after is_kept rest c r.is_at.kept now own in
+              let there = has_there facts place t g mid m was first at has (AtPlace refl) in
+              let c : Carried facts place stamp mid new v r.here.keeper (answer_at v datagram) told after is_kept rest = carried facts place stamp v r.here.keeper r.is_at.runs mid new (answer_at v datagram) told after is_kept rest (subst (λ (a : Answer). ReturnsAnswer draft_facts (moment v (found_draft r.here.keeper.kept)) a told after) (answer_is v) returns) answers.kept in
+              let n : Next stamp (Open r.here) (answer_reply after told is_kept ∷ []) rest now = answered_on r.here told after is_kept rest mid new there c r.is_at.kept now own in
               record {
                 acts = r.acts ++ n.acts;
                 to = n.to;

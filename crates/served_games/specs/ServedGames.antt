@@ -83,10 +83,10 @@ AreOverLeft old (act ∷ acts) = OpensOverLeft old act × AreOverLeft (life_by o
 
 module _ {G : Type 0} (facts : GamesFacts G) (place : facts.Place) (stamp : List ℕ) where
   -- a record of the game is kept by these events, or that fails; or none is put
-  pub data PutsBy (before after : PlaceKeeper) (events : List Event) : Type 0 where
-    NothingPut : after ≡ before → events ≡ [] → PutsBy before after events
-    IsPut : (games now : G) (bytes : List ℕ) → IsThere facts place games → facts.keeps games stamp bytes true events now → after ≡ has_put before bytes → PutsBy before after events
-    PutFails : (games now : G) (bytes : List ℕ) → IsThere facts place games → facts.keeps games stamp bytes false events now → after ≡ has_failed before bytes → PutsBy before after events
+  pub data PutsBy (games : G) (before after : PlaceKeeper) (events : List Event) (now : G) : Type 0 where
+    NothingPut : after ≡ before → events ≡ [] → now ≡ games → PutsBy games before after events now
+    IsPut : (bytes : List ℕ) → facts.keeps games stamp bytes true events now → after ≡ has_put before bytes → PutsBy games before after events now
+    PutFails : (bytes : List ℕ) → facts.keeps games stamp bytes false events now → after ≡ has_failed before bytes → PutsBy games before after events now
 
   -- the game is looked for, its record is taken, and what opening an arbiter over it has to put is kept, or that fails
   pub record OpensBy (o : Opening PlaceKeeper) (events : List Event) : Type 0 where
@@ -102,7 +102,8 @@ module _ {G : Type 0} (facts : GamesFacts G) (place : facts.Place) (stamp : List
     pub after : G
     pub takes : facts.takes games stamp (Ok o.before.kept) taken after
     pub put : List Event
-    pub puts : PutsBy o.before o.now put
+    pub last : G
+    pub puts : PutsBy after o.before o.now put last
     pub are : events ≡ looked ++ (taken ++ put)
 
   -- where no arbiter of it is asked for: nothing is looked for, or it isn't found, or its record can't be had
@@ -116,7 +117,8 @@ module _ {G : Type 0} (facts : GamesFacts G) (place : facts.Place) (stamp : List
   abbrev pub AnswersMake : GameStatus PlaceKeeper → Moment PlaceKeeper → List Event → Type 0
   AnswersMake Fresh after events = ⊥
   AnswersMake (Shut left) after events = ⊥
-  AnswersMake (Open at) after events = PutsBy at.keeper after.keeper events × (after.arbiter.is_down ≡ false → after.keeper.unkept ≡ None)
+  AnswersMake (Open at) after events =
+      (games now : G) × IsThere facts place games × PutsBy games at.keeper after.keeper events now × (after.arbiter.is_down ≡ false → after.keeper.unkept ≡ None)
 
   abbrev pub ClosesMake : GameStatus PlaceKeeper → PlaceKeeper → List Event → Type 0
   ClosesMake Fresh left events = ⊥
