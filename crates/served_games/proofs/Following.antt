@@ -156,11 +156,11 @@ module _ {T P F K S L G : Type 0} (o : Outside T P F K S L) (facts : GamesFacts 
 
   -- what is made of it, whether it came or not
   module _ (old new : Server G F) (h : Heard) (d : HearsDatagram o facts old new h.datagram h.reply h.events) (told : AreToldAt facts stamp old) (life : Life) (isat : IsAt (game_at old stamp) life) (past : List Event) (durable : IsDurableAfter (kept_at old) stamp past h.events) (found : IsFoundIn (kept_at old) stamp past before life) where
-    from_acts : (n : Next facts (common old) old.shared.games stamp life (reply_for stamp h) (made_for stamp h) (game_at new stamp)) → IsFoundIn (kept_at old) stamp (behind past h.events) before (life_through life n.acts) → AreOverLeft (left_before before life) n.acts → FoundOver old life (h ∷ []) new (behind past h.events)
+    from_acts : (n : Next facts (common old) old.shared.games stamp life (reply_for stamp h) (made_for stamp h) (game_at new stamp) old.shared.games (cond (is_for stamp h) new.shared.games old.shared.games)) → IsFoundIn (kept_at old) stamp (behind past h.events) before (life_through life n.acts) → AreOverLeft (left_before before life) n.acts → FoundOver old life (h ∷ []) new (behind past h.events)
     unfolding PlaysAll
     from_acts n f over = by_acts facts (place_of old) (common old) stamp before life h (game_at new stamp) (behind past h.events) n.acts n.to (n.to, n.on, refl) n.at n.on.leads over f
 
-    by_for : (n : Next facts (common old) old.shared.games stamp life (reply_for stamp h) (made_for stamp h) (game_at new stamp)) (b : Bool) → is_for stamp h ≡ b → FoundOver old life (h ∷ []) new (behind past h.events)
+    by_for : (n : Next facts (common old) old.shared.games stamp life (reply_for stamp h) (made_for stamp h) (game_at new stamp) old.shared.games (cond (is_for stamp h) new.shared.games old.shared.games)) (b : Bool) → is_for stamp h ≡ b → FoundOver old life (h ∷ []) new (behind past h.events)
     by_for n true is =
         let makes : MakesAll facts (place_of old) stamp life n.acts h.events = subst (λ (x : Bool). MakesAll facts (place_of old) stamp life n.acts (cond x h.events [])) is n.on.makes in
         let a = acts_found facts at_once (place_of old) stamp before past h.events life n.acts makes durable found in

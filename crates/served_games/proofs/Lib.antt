@@ -2,6 +2,7 @@ pub mod Carrying
 pub mod Opening
 pub mod Going
 pub mod Reaching
+pub mod InTurn
 pub mod Playing
 pub mod Running
 pub mod Telling

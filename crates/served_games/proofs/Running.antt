@@ -35,7 +35,7 @@ module _ {T P F K S L G : Type 0} (o : Outside T P F K S L) (facts : GamesFacts 
 
   module _ (old new : Server G F) (heard : Heard) (h : HearsDatagram o facts old new heard.datagram heard.reply heard.events) (life : Life) where
     abbrev Goal : List ℕ → Type 0
-    Goal stamp = Next facts (common old) old.shared.games stamp life (reply_for stamp heard) (made_for stamp heard) (game_at new stamp)
+    Goal stamp = Next facts (common old) old.shared.games stamp life (reply_for stamp heard) (made_for stamp heard) (game_at new stamp) old.shared.games (cond (is_for stamp heard) new.shared.games old.shared.games)
 
     -- it is of another game, or of none
     left_seen : (was now : Option (Seat F)) → IsLeftOpen was now → IsLeftOpen (seen old.shared.tables was) (seen new.shared.tables now)
@@ -44,8 +44,8 @@ module _ {T P F K S L G : Type 0} (o : Outside T P F K S L) (facts : GamesFacts 
 
     other : (stamp : List ℕ) → is_for stamp heard ≡ false → IsNotOf stamp (heard_in heard.datagram) → IsAt (game_at old stamp) life → Goal stamp
     other stamp is not at =
-        subst (λ (b : Bool). Next facts (common old) old.shared.games stamp life (cond b (reply_to heard ∷ []) []) (cond b heard.events []) (game_at new stamp)) (sym is)
-        (aside facts (common old) old.shared.games stamp life (game_at old stamp) (game_at new stamp) at (left_seen (open_at old stamp) (open_at new stamp) (h.others stamp not)))
+        subst (λ (b : Bool). Next facts (common old) old.shared.games stamp life (cond b (reply_to heard ∷ []) []) (cond b heard.events []) (game_at new stamp) old.shared.games (cond b new.shared.games old.shared.games)) (sym is)
+        (aside facts (common old) old.shared.games stamp life (game_at old stamp) (game_at new stamp) old.shared.games at (left_seen (open_at old stamp) (open_at new stamp) (h.others stamp not)))
 
     -- it is of this game
     module _ (m : Message) (is : heard_in heard.datagram ≡ Ok m) where
@@ -59,8 +59,8 @@ module _ {T P F K S L G : Type 0} (o : Outside T P F K S L) (facts : GamesFacts 
           let left : game_at new stamp ≡ fate_leaves h.fate = subst (λ (r : Result Message MessageFault). was_open new r ≡ fate_leaves h.fate) is h.own in
           let its : is_for stamp heard ≡ true = ap (λ (r : Result Message MessageFault). is_stamp stamp (stamp_by r)) is ∙ itself stamp in
           let n = fated facts (common old) old.shared.games heard.datagram m is (game_at old stamp) (game_at new stamp) life heard.events at h.fate new.shared.games goes left in
-          subst (λ (b : Bool). Next facts (common old) old.shared.games stamp life (cond b (reply_to heard ∷ []) []) (cond b heard.events []) (game_at new stamp)) (sym its)
-          (subst (λ (r : DatagramReply). Next facts (common old) old.shared.games stamp life (r ∷ []) heard.events (game_at new stamp)) reply_is n)
+          subst (λ (b : Bool). Next facts (common old) old.shared.games stamp life (cond b (reply_to heard ∷ []) []) (cond b heard.events []) (game_at new stamp) old.shared.games (cond b new.shared.games old.shared.games)) (sym its)
+          (subst (λ (r : DatagramReply). Next facts (common old) old.shared.games stamp life (r ∷ []) heard.events (game_at new stamp) old.shared.games new.shared.games) reply_is n)
 
       by_stamp : (stamp : List ℕ) (b : Bool) → bytes_eq (stamp_in m) stamp ≡ b → IsAt (game_at old stamp) life → Goal stamp
       by_stamp stamp true same at = let s : stamp_in m ≡ stamp = same_stamp (stamp_in m) stamp same in subst (λ (x : List ℕ). IsAt (game_at old x) life → Goal x) s own at
