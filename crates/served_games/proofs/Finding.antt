@@ -48,7 +48,7 @@ module _ (before : PlaceKeeper) where
   left_at at true = refl
   left_at at false = refl
 
-  left_act : (old : Life) (act : Action PlaceKeeper) → life_by (left_before before old) act ≡ left_before before (life_by old act)
+  pub left_act : (old : Life) (act : Action PlaceKeeper) → life_by (left_before before old) act ≡ left_before before (life_by old act)
   left_act old (Unread datagram fault) = refl
   left_act old (Strange of datagram tried why) = refl
   left_act old (Refuses of datagram o fault) = refl
@@ -66,7 +66,7 @@ over_join a (x ∷ xs) ys p q = (p.0, over_join (life_by a x) xs ys p.1 q)
 
 -- ---- keepers
 
-follows_kept : (k : PlaceKeeper) (found : Option (List ℕ)) → k.unkept ≡ None → Follows k (found_keeper found) → found ≡ k.kept
+pub follows_kept : (k : PlaceKeeper) (found : Option (List ℕ)) → k.unkept ≡ None → Follows k (found_keeper found) → found ≡ k.kept
 follows_kept k found none (inl same) = same
 follows_kept k found none (inr p) = absurd (let f : ◌≡◌ {A = Option (List ℕ)} None (Some p.0) = sym none ∙ p.1 in cc)
 

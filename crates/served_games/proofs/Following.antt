@@ -76,7 +76,7 @@ module _ {G : Type 0} (facts : GamesFacts G) (place : facts.Place) (t : CommonVi
   unfolding PlaysAll
   nothing life now past isat found = record { played = record { each = []; life = life; plays = refl; at = isat }; over = tt; found = found }
 
-not_of : (stamp : List ℕ) (r : Result Message MessageFault) → is_stamp stamp (stamp_by r) ≡ false → IsNotOf stamp r
+pub not_of : (stamp : List ℕ) (r : Result Message MessageFault) → is_stamp stamp (stamp_by r) ≡ false → IsNotOf stamp r
 not_of stamp (Ok m) is = is
 not_of stamp (Err fault) is = tt
 

@@ -15,7 +15,7 @@ use Rattle.timeline.specs.Outsides.{Outside}
 use Rattle.game_folder.proofs.NotedLaws.{given_value}
 use Rattle.game_folder.specs.FolderGames.{FindsInFolder, HadNoPath, Sought}
 use Rattle.game_folder.specs.Places.{InStore}
-use Rattle.game_folder.specs.StoreGames.{CommitsNoted, CouldNot, HadNoRoom, HadNone, HasAll, IsEntryFor, LacksMemory, LeavesNoted, LosesStore, NotesBytes, StoredGames, StoredPlace, TakesFromStore, WasNoted, WasRefused, WasSought, its_bytes, last_noted, loss_told}
+use Rattle.game_folder.specs.StoreGames.{CommitsNoted, CouldNot, HadNoRoom, HadNone, HasAll, IsEntryFor, LacksMemory, LeavesNoted, LosesStore, NotesBytes, StoredGames, StoredPlace, TakesFromStore, WasNoted, WasRefused, WasSought, its_bytes, last_noted, loss_told, store_games_facts}
 use Rattle.game_folder.specs.declared.store_games.Loss.{Loss}
 use Rattle.game_folder.specs.declared.store_games.Loss.TheVariants.{OfMemory, OfStore}
 use Rattle.served_games.specs.Durable.{HasBatch, IfSame, IsDurableAfter, MayFind, behind, last_among, last_of}
@@ -232,6 +232,10 @@ module _ {S : Type 0} (g now : StoredGames S) where
   note_fit stamp bytes true notes fit = (sym (ap (λ (x : StoredGames S). x.loss) notes.2) ∙ fit, refl)
   note_fit stamp bytes false notes fit = absurd (lost_not OfMemory now.loss (ap (λ (x : StoredGames S). x.loss) notes) fit)
 
+note_stays : {T P F K S L : Type 0} (o : Outside T P F K S L) (g now : StoredGames S) (stamp bytes : List ℕ) (is_done : Bool) → NotesBytes g stamp bytes is_done now → (store_games_facts o).place now ≡ (store_games_facts o).place g
+note_stays {S = S} o g now stamp bytes true notes = ap (λ (x : StoredGames S). (store_games_facts o).place x) notes.2
+note_stays {S = S} o g now stamp bytes false notes = ap (λ (x : StoredGames S). (store_games_facts o).place x) notes
+
 -- ---- a commit
 
 module _ {T P F K S L : Type 0} (o : Outside T P F K S L) (stamp : List ℕ) (g now : StoredGames S) where
@@ -282,6 +286,9 @@ store_keeps_in_order {S = S} o = record {
   lasts = λ g now stamp events past commits. lasts_so o stamp g now events past commits.0;
   breaks_off = λ g now stamp why events past commits. breaks_so o stamp g now why events past commits.0;
   takes_fit = λ g now stamp result events takes fit. sym (ap (λ (x : StoredGames S). x.loss) takes.1) ∙ fit;
-  keeps_fit = λ g now stamp bytes is_done events keeps fit. note_fit g now stamp bytes is_done keeps.1 fit;
+  stays = λ g stamp events past stays. over_held o stamp g past (behind past events) stays;
+  takes_stay = λ g now stamp result events takes. ap (λ (x : StoredGames S). (store_games_facts o).place x) takes.1;
+  keeps_stay = λ g now stamp bytes is_done events keeps. note_stays o g now stamp bytes is_done keeps.1;
+  keeps_fit = λ g now stamp bytes is_done events keeps fit. (note_fit g now stamp bytes is_done keeps.1 fit).0;
   commits_fit = λ g now told events commits fit. commit_fit g now (o.store_path g.store) told events commits.0 commits.1 fit;
 }

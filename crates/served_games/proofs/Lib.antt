@@ -17,3 +17,4 @@ pub mod OneGames
 pub mod FolderRuns
 pub mod FileHistories
 pub mod InOrder
+pub mod Taking

@@ -9,7 +9,18 @@ use Rattle.timeline.specs.Outsides.{Outside}
 use Rattle.game_folder.specs.Holdings.{GamesFacts}
 use Rattle.game_folder.specs.Places.{InStore}
 use Rattle.game_folder.specs.StoreGames.{StoredGames, last_noted, store_games_facts}
-use Rattle.served_games.specs.Durable.{HasBatch, IsDurableAfter, MayFind, behind}
+use Rattle.arbiter_core.specs.Delivers.{Moment}
+use Rattle.arbiter_server.specs.Games.{CommonView, Fresh, GameStatus, Open, Shut}
+use Rattle.system_io.specs.declared.recipient.Recipient.{Recipient}
+use Rattle.game_folder.specs.Drafts.{DraftView}
+use Rattle.game_server.specs.Printing.{LineForm}
+use Rattle.game_server.specs.Rounds.{Heard}
+use Rattle.game_server.specs.Runs.{InTurns, Turn, run_events}
+use Rattle.game_server.specs.Seats.{common}
+use Rattle.game_server.specs.declared.server.Server.{Server}
+use Rattle.served_games.specs.PlaceKeepers.{Follows, PlaceKeeper, found_keeper}
+use Rattle.served_games.specs.ServedGames.{AreOverLeft, IsAt, PlayedGame, all_acts, game_at, heard_in_turns}
+use Rattle.served_games.specs.Durable.{HasBatch, IsDurableAfter, MayFind, StaysFound, behind, left_before}
 
 -- whatever may be found now might be found before
 abbrev pub FindsNoMore : (Option (List ℕ) → Type 0) → (Option (List ℕ) → Type 0) → Type 0
@@ -50,9 +61,14 @@ pub record KeepsInOrder {G : Type 0} (facts : GamesFacts G) (IsFit : G → Type 
   pub breaks_off : (g now : G) (stamp : List ℕ) (why : Uncommitted) (events past : List Event) → facts.commits g (Err why) events now
       → (found : Option (List ℕ)) → MayFind (facts.places (facts.place g) stamp) stamp (behind past events) found
       → MayTake g stamp past found ⊎ MayFind (facts.places (facts.place g) stamp) stamp past found
+  -- what changes nothing of what a start finds changes nothing of what a taking does; and no call changes where games are
+  pub stays : (g : G) (stamp : List ℕ) (events past : List Event) → StaysFound (facts.places (facts.place g) stamp) stamp past events
+      → FindsNoMore (MayTake g stamp (behind past events)) (MayTake g stamp past)
+  pub takes_stay : (g now : G) (stamp : List ℕ) (result : Result (Option (List ℕ)) OpenGameError) (events : List Event) → facts.takes g stamp result events now → facts.place now ≡ facts.place g
+  pub keeps_stay : (g now : G) (stamp bytes : List ℕ) (is_done : Bool) (events : List Event) → facts.keeps g stamp bytes is_done events now → facts.place now ≡ facts.place g
   -- no call makes games fit that weren't
   pub takes_fit : (g now : G) (stamp : List ℕ) (result : Result (Option (List ℕ)) OpenGameError) (events : List Event) → facts.takes g stamp result events now → IsFit now → IsFit g
-  pub keeps_fit : (g now : G) (stamp bytes : List ℕ) (is_done : Bool) (events : List Event) → facts.keeps g stamp bytes is_done events now → IsFit now → IsFit g × (is_done ≡ true)
+  pub keeps_fit : (g now : G) (stamp bytes : List ℕ) (is_done : Bool) (events : List Event) → facts.keeps g stamp bytes is_done events now → IsFit now → IsFit g
   pub commits_fit : (g now : G) (told : Result (Unit {0}) Uncommitted) (events : List Event) → facts.commits g told events now → IsFit now → IsFit g
 
 -- of games in a store: what is noted last of a game, or what a start may find of it in the store
@@ -65,3 +81,30 @@ CanCommit g = g.loss ≡ None
 -- THE LAW: so it is of games whose records are noted, and committed to a store
 abbrev pub StoreKeepsInOrder : {T P F K S L : Type 0} → Outside T P F K S L → Type 0
 StoreKeepsInOrder o = KeepsInOrder (store_games_facts o) CanCommit (MayTakeStored o)
+
+-- ---- a game in a run
+
+-- Whatever may be found is what the game keeps while it is open, or what it left; where it wasn't opened yet, what was left before.
+abbrev pub IsFoundBy : (Option (List ℕ) → Type 0) → PlaceKeeper → GameStatus PlaceKeeper → Type 0
+IsFoundBy may before Fresh = (found : Option (List ℕ)) → may found → Follows before (found_keeper found)
+IsFoundBy may before (Shut left) = (found : Option (List ℕ)) → may found → Follows left (found_keeper found)
+IsFoundBy may before (Open now) = (found : Option (List ℕ)) → may found → found ≡ now.keeper.kept
+
+-- the acts of a game, each opening of which is over what was left; and what may be found after them, while more can be committed
+pub record TakenGame {G : Type 0} (facts : GamesFacts G) (place : facts.Place) (t : CommonView) (stamp : List ℕ) (before : PlaceKeeper) (was : GameStatus PlaceKeeper) (heard : List Heard) (now : Option (Moment DraftView)) (fit : Type 0) (may : Option (List ℕ) → Type 0) : Type 0 where
+  pub played : PlayedGame facts place t stamp was heard now
+  pub over : AreOverLeft (left_before before was) (all_acts played.each)
+  pub found : fit → IsFoundBy may before played.life
+
+-- THE LAW: In a run each opening of a game is over what it left, and while more can be committed, whatever a taking may find is that.
+abbrev pub GamesAreTaken : {T P F K S L G : Type 0} → Outside T P F K S L → GamesFacts G → (G → Type 0) → (G → List ℕ → List Event → Option (List ℕ) → Type 0) → Type 0
+GamesAreTaken {F} {G} o facts IsFit MayTake =
+    (form : LineForm) (texts : List (List ℕ)) (to : List Recipient) (old new : Server G F) (turns : List Turn) (stamp : List ℕ) (before : PlaceKeeper) (was : GameStatus PlaceKeeper) (past : List Event)
+    → InTurns o facts form texts old turns new → IsAt (game_at old stamp) was
+    → IsDurableAfter (facts.places (facts.place old.shared.games) stamp) stamp past (run_events to turns)
+    → IsFoundBy (MayTake old.shared.games stamp past) before was
+    → TakenGame facts (facts.place old.shared.games) (common old) stamp before was (heard_in_turns turns) (game_at new stamp) (IsFit new.shared.games) (MayTake new.shared.games stamp (behind past (run_events to turns)))
+
+-- of games in a store: so each opening in a run is over what was left, where the store is durable
+abbrev pub StoreGamesAreTaken : {T P F K S L : Type 0} → Outside T P F K S L → Type 0
+StoreGamesAreTaken o = GamesAreTaken o (store_games_facts o) CanCommit (MayTakeStored o)

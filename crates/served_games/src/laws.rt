@@ -5,7 +5,7 @@ ghost use Rattle.game_folder.specs.OneGame.{one_game_facts};
 ghost use Rattle.served_games.specs.Durable.{GamesAreFound, KeepsAtOnce, RunsLast};
 ghost use Rattle.served_games.specs.FileHistories.{FilesAreDurable};
 ghost use Rattle.served_games.specs.FolderRuns.{FolderGamesKeepWhatTheyTold};
-ghost use Rattle.served_games.specs.InOrder.{StoreKeepsInOrder};
+ghost use Rattle.served_games.specs.InOrder.{StoreGamesAreTaken, StoreKeepsInOrder};
 ghost use Rattle.served_games.specs.Lasting.{EachLasts};
 ghost use Rattle.served_games.specs.OneGames.{OneGameKeepsWhatItTold};
 ghost use Rattle.served_games.specs.ServedGames.{GamesArePlayed, PlayedAreHosted};
@@ -87,4 +87,10 @@ pub fn files_are_durable<S: System>(_system: &S)
 /// committed; behind a commit a start finds that too, and behind one that failed that or what it found before.
 pub fn store_games_keep_in_order<S: System>(_system: &S)
     ensures { StoreKeepsInOrder (S.outside _system.now) }
+{}
+
+/// In a run over a store, where that is durable, each opening of a game is over what it left; and while more can be committed, what a taking may
+/// find is what the game keeps or left.
+pub fn store_games_are_taken<S: System>(_system: &S)
+    ensures { StoreGamesAreTaken (S.outside _system.now) }
 {}
