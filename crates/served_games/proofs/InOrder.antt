@@ -238,6 +238,9 @@ note_stays {S = S} o g now stamp bytes false notes = ap (λ (x : StoredGames S).
 
 -- ---- a commit
 
+ok_err : (why : Uncommitted) → ◌≡◌ {A = Result (Unit {0}) Uncommitted} (Ok tt) (Err why) → ⊥
+ok_err why e = cc
+
 module _ {T P F K S L : Type 0} (o : Outside T P F K S L) (stamp : List ℕ) (g now : StoredGames S) where
   abbrev Told : Type 0
   Told = Result (Unit {0}) Uncommitted
@@ -273,6 +276,13 @@ module _ {T P F K S L : Type 0} (o : Outside T P F K S L) (stamp : List ℕ) (g 
   breaks_so why events past (LacksMemory may is one) found m = undone_may o stamp g past found (subst (λ (l : List Event). MayFind (InStore (o.store_path g.store)) stamp (behind past l) found) one m)
   breaks_so why events past (LosesStore may is two) found m = undone_may o stamp g past found (subst (λ (l : List Event). MayFind (InStore (o.store_path g.store)) stamp (behind past l) found) two m)
 
+ok_fit : {T P F K S L : Type 0} (o : Outside T P F K S L) (g : StoredGames S) (events : List Event) → CommitsNoted (o.store_path g.store) g (Ok tt) events → g.loss ≡ None
+ok_fit o g events (CouldNot loss is why none) = absurd (ok_err (loss_told loss) why)
+ok_fit o g events (HadNone can noted is none) = can
+ok_fit o g events (HasAll may is one) = may.0
+ok_fit o g events (LacksMemory may is one) = may.0
+ok_fit o g events (LosesStore may is two) = may.0
+
 pub store_keeps_in_order : {T P F K S L : Type 0} (o : Outside T P F K S L) → StoreKeepsInOrder o
 store_keeps_in_order {S = S} o = record {
   finds = λ g stamp other result events past finds. finds_so o stamp g other result events past finds;
@@ -285,6 +295,7 @@ store_keeps_in_order {S = S} o = record {
   commits = λ g now place stamp told events past commits fit. commits_so o stamp g now (ap (λ (p : StoredPlace). p.store_path) place) told events past commits.0 commits.1 fit;
   lasts = λ g now stamp events past commits. lasts_so o stamp g now events past commits.0;
   breaks_off = λ g now stamp why events past commits. breaks_so o stamp g now why events past commits.0;
+  commits_ok = λ g now events commits. ok_fit o g events commits.0;
   takes_fit = λ g now stamp result events takes fit. sym (ap (λ (x : StoredGames S). x.loss) takes.1) ∙ fit;
   stays = λ g stamp events past stays. over_held o stamp g past (behind past events) stays;
   takes_stay = λ g now stamp result events takes. ap (λ (x : StoredGames S). (store_games_facts o).place x) takes.1;

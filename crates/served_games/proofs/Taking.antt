@@ -8,6 +8,7 @@ use Rattle.arbiter_core.specs.Setups.{SetupView}
 use Rattle.arbiter_server.specs.Acts.{Action, Opening, Unread, Strange, Refuses, Opens, Answers, Closes}
 use Rattle.arbiter_server.specs.Games.{CommonView, Fresh, Open, Shut}
 use Rattle.arbiter_server.specs.declared.fault.OpenGameError.{OpenGameError}
+use Rattle.arbiter_server.specs.declared.fault.Uncommitted.{Uncommitted}
 use Rattle.arbiter_server.specs.declared.games.GameConfig.{GameConfig}
 use Rattle.move_msg.specs.Heard.{heard_in}
 use Rattle.move_msg.specs.Messages.{stamp_in}
@@ -25,8 +26,8 @@ use Rattle.game_server.specs.Rounds.{Heard, HearsAll, IsRound, Round, end_events
 use Rattle.game_server.specs.Runs.{Answers as AnswersRound, Deed, HearsNone, InTurns, IsDeed, Turn, deed_events, deed_lines, run_events, turn_events}
 use Rattle.game_server.specs.Seats.{common}
 use Rattle.game_server.specs.declared.server.Server.{Server}
-use Rattle.served_games.specs.Durable.{IsDurableAfter, StaysFound, behind, left_before}
-use Rattle.served_games.specs.InOrder.{FindsNoMore, GamesAreTaken, IsFoundBy, KeepsInOrder, TakenGame}
+use Rattle.served_games.specs.Durable.{IsDurableAfter, MayFind, StaysFound, behind, left_before}
+use Rattle.served_games.specs.InOrder.{CommitsAreFound, FindsNoMore, GamesAreTaken, IsFoundBy, KeepsInOrder, TakenGame, events_to_commit}
 use Rattle.served_games.specs.PlaceKeepers.{Follows, PlaceKeeper, found_keeper}
 use Rattle.served_games.specs.ServedGames.{AreOverLeft, IsAt, IsOverLeft, IsPut, NothingPut, OpensOverLeft, PlaysAll, PutFails, PutsBy, all_acts, game_at, heard_by, heard_in_turns, is_for, life_by, life_through, made_for, reply_for}
 use Rattle.served_games.proofs.Asides.{aside_one, asides, end_aside, lines_aside, round_aside}
@@ -35,7 +36,7 @@ use Rattle.served_games.proofs.Following.{not_of}
 use Rattle.served_games.proofs.Going.{Acts, Life, played_are_hosted, plays_join}
 use Rattle.served_games.proofs.InTurn.{Look, LooksIn, MakesIn, MakesInTurn, NoLook, NoTake, OpensIn}
 use Rattle.served_games.proofs.Playing.{Next}
-use Rattle.served_games.proofs.Running.{StaysServer, played_one, same_game, stays_all, stays_by, stays_on, stays_one}
+use Rattle.served_games.proofs.Running.{StaysServer, played_one, same_game, stays_all, stays_by, stays_on, stays_one, turns_stay}
 
 found_less : (now was : Option (List ℕ) → Type 0) (before : PlaceKeeper) (life : Life) → FindsNoMore now was → IsFoundBy was before life → IsFoundBy now before life
 found_less now was before Fresh less h = λ found m. h found (less found m)
@@ -417,6 +418,50 @@ module _ {T P F K S L G : Type 0} (o : Outside T P F K S L) (facts : GamesFacts 
       at_past life (heard_by turn.deed ++ heard_in_turns turns) new (behind (behind past all) rest) (behind past (all ++ rest)) (behind_join past all rest)
       (on_heard life (heard_by turn.deed) (heard_in_turns turns) p.0 new (behind past all) (behind (behind past all) rest) first more)
 
+  -- ---- behind a commit that succeeded
+
+  round_heard : (old mid : Server G F) (life : Life) (r : Round) (past : List Event) → HearsAll o facts old r.heard mid → IsHere old → IsAt (game_at old stamp) life → IsDurableAfter kept_at stamp past (flat_map heard_events r.heard ++ end_events r.end) → FoundAt old life past → TakenOver life r.heard mid (behind past (flat_map heard_events r.heard ++ end_events r.end))
+  round_heard old mid life r past hears here isat durable found =
+      let heard = flat_map heard_events r.heard in
+      let ends = end_events r.end in
+      let f = all_taken old mid life r.heard past hears here isat (durable_first kept_at stamp past heard ends durable) found in
+      at_past life r.heard mid (behind (behind past heard) ends) (behind past (heard ++ ends)) (behind_join past heard ends) (on_aside life r.heard mid (behind past heard) ends (λ at. asides at stamp (behind past heard) ends (end_aside r.end)) f)
+
+  -- what a start may find then
+  abbrev FoundThere : Life → List Heard → Server G F → List Event → Type 0
+  FoundThere life hs new past = TakenGame facts place t stamp before life hs (game_at new stamp) (Unit {0}) (MayFind kept_at stamp past)
+
+  committed_found : (mid new : Server G F) (life : Life) (hs : List Heard) (r : Round) (past past' : List Event) (is : Rattle.game_folder.specs.Holdings.CommitsGames facts mid.shared.games new.shared.games r.committed r.commits) → r.committed ≡ Ok tt → IsHere mid → game_at new stamp ≡ game_at mid stamp → past' ≡ behind past r.commits → TakenOver life hs mid past → FoundThere life hs new past'
+  committed_found mid new life hs r past past' is ok here same joined f =
+      let done : facts.commits mid.shared.games (Ok tt) r.commits new.shared.games = subst (λ (x : Result (Unit {0}) Uncommitted). facts.commits mid.shared.games (without_value x) r.commits new.shared.games) ok is.done in
+      record {
+        played = record { each = f.played.each; life = f.played.life; plays = f.played.plays; at = subst (λ (w : Option (Moment DraftView)). IsAt w f.played.life) (sym same) f.played.at };
+        over = f.over;
+        found = λ u. found_less (MayFind kept_at stamp past') (May mid.shared.games stamp past) before f.played.life
+            (λ found m. order.lasts mid.shared.games new.shared.games stamp r.commits past done found
+            (subst (λ (x : facts.Place). MayFind (facts.places x stamp) stamp (behind past r.commits) found) (sym here.there) (subst (λ (l : List Event). MayFind kept_at stamp l found) joined m)))
+            (f.found (order.commits_ok mid.shared.games new.shared.games r.commits done));
+      }
+
+  commits_found : (form : LineForm) (texts : List (List ℕ)) (to : List Recipient) (old mid new : Server G F) (turns : List Turn) (r : Round) (life : Life) (past : List Event) → InTurns o facts form texts old turns mid → IsRound o facts mid r new → r.committed ≡ Ok tt → IsHere old → IsAt (game_at old stamp) life
+      → IsDurableAfter kept_at stamp past (run_events to turns ++ events_to_commit r) → FoundAt old life past → FoundThere life (heard_in_turns turns ++ r.heard) new (behind past (run_events to turns ++ events_to_commit r))
+  commits_found form texts to old mid new turns r life past p is ok here isat durable found =
+      let all = run_events to turns in
+      let came = flat_map heard_events r.heard ++ end_events r.end in
+      let a = behind past all in
+      let first = turns_taken form texts to old mid turns life past p here isat (durable_first kept_at stamp past all (events_to_commit r) durable) found in
+      let there = here_on old mid (turns_stay o facts stamp form texts old mid turns p) here in
+      let there' = here_on mid is.mid (stays_all o facts stamp mid is.mid r.heard is.heard) there in
+      let late = durable_first kept_at stamp a came r.commits (durable_rest kept_at stamp past all (events_to_commit r) durable) in
+      let more = round_heard mid is.mid first.played.life r a is.heard there first.played.at late first.found in
+      committed_found is.mid new life (heard_in_turns turns ++ r.heard) r (behind a came) (behind past (all ++ events_to_commit r)) is.commits ok there' (same_game o facts stamp is.mid new is.same.common.tables is.same.seats)
+      (behind_join past all (events_to_commit r) ∙ behind_join a came r.commits)
+      (on_heard life (heard_in_turns turns) r.heard mid is.mid a (behind a came) first more)
+
 pub games_are_taken : {T P F K S L G : Type 0} (o : Outside T P F K S L) (facts : GamesFacts G) (IsFit : G → Type 0) (May : G → List ℕ → List Event → Option (List ℕ) → Type 0) → KeepsInOrder facts IsFit May → GamesAreTaken o facts IsFit May
 games_are_taken o facts IsFit May order form texts to old new turns stamp before was past p isat durable found =
     turns_taken o facts IsFit May order stamp (facts.place old.shared.games) (common old) before form texts to old new turns was past p (record { there = refl; is = refl }) isat durable (λ fit. found)
+
+pub commits_are_found : {T P F K S L G : Type 0} (o : Outside T P F K S L) (facts : GamesFacts G) (IsFit : G → Type 0) (May : G → List ℕ → List Event → Option (List ℕ) → Type 0) → KeepsInOrder facts IsFit May → CommitsAreFound o facts May
+commits_are_found o facts IsFit May order form texts to old mid new turns r stamp before was past p is ok isat durable found =
+    commits_found o facts IsFit May order stamp (facts.place old.shared.games) (common old) before form texts to old mid new turns r was past p is ok (record { there = refl; is = refl }) isat durable (λ fit. found)

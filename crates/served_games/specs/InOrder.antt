@@ -1,5 +1,6 @@
 -- Records that are noted first and committed later: what a taking may find, call by call (this project's own).
-use Rattle.std.specs.Prelude.{◌≡◌, ◌⊎◌, ℕ, Bool, true, false, List, Option, Some, None, Result, Ok, Err}
+use Rattle.std.specs.Prelude.{◌++◌, ◌≡◌, ◌⊎◌, ℕ, Bool, true, false, List, Option, Some, None, Result, Ok, Err}
+use Rattle.std.specs.List.{flat_map}
 use Rattle.std.specs.Str.{bytes_eq}
 use Rattle.arbiter_server.specs.declared.fault.OpenGameError.{OpenGameError}
 use Rattle.arbiter_server.specs.declared.fault.Uncommitted.{Uncommitted}
@@ -14,7 +15,7 @@ use Rattle.arbiter_server.specs.Games.{CommonView, Fresh, GameStatus, Open, Shut
 use Rattle.system_io.specs.declared.recipient.Recipient.{Recipient}
 use Rattle.game_folder.specs.Drafts.{DraftView}
 use Rattle.game_server.specs.Printing.{LineForm}
-use Rattle.game_server.specs.Rounds.{Heard}
+use Rattle.game_server.specs.Rounds.{Heard, IsRound, Round, end_events, heard_events}
 use Rattle.game_server.specs.Runs.{InTurns, Turn, run_events}
 use Rattle.game_server.specs.Seats.{common}
 use Rattle.game_server.specs.declared.server.Server.{Server}
@@ -66,7 +67,8 @@ pub record KeepsInOrder {G : Type 0} (facts : GamesFacts G) (IsFit : G → Type 
       → FindsNoMore (MayTake g stamp (behind past events)) (MayTake g stamp past)
   pub takes_stay : (g now : G) (stamp : List ℕ) (result : Result (Option (List ℕ)) OpenGameError) (events : List Event) → facts.takes g stamp result events now → facts.place now ≡ facts.place g
   pub keeps_stay : (g now : G) (stamp bytes : List ℕ) (is_done : Bool) (events : List Event) → facts.keeps g stamp bytes is_done events now → facts.place now ≡ facts.place g
-  -- no call makes games fit that weren't
+  -- where a commit succeeds more could be committed; and no call makes games fit that weren't
+  pub commits_ok : (g now : G) (events : List Event) → facts.commits g (Ok tt) events now → IsFit g
   pub takes_fit : (g now : G) (stamp : List ℕ) (result : Result (Option (List ℕ)) OpenGameError) (events : List Event) → facts.takes g stamp result events now → IsFit now → IsFit g
   pub keeps_fit : (g now : G) (stamp bytes : List ℕ) (is_done : Bool) (events : List Event) → facts.keeps g stamp bytes is_done events now → IsFit now → IsFit g
   pub commits_fit : (g now : G) (told : Result (Unit {0}) Uncommitted) (events : List Event) → facts.commits g told events now → IsFit now → IsFit g
@@ -108,3 +110,21 @@ GamesAreTaken {F} {G} o facts IsFit MayTake =
 -- of games in a store: so each opening in a run is over what was left, where the store is durable
 abbrev pub StoreGamesAreTaken : {T P F K S L : Type 0} → Outside T P F K S L → Type 0
 StoreGamesAreTaken o = GamesAreTaken o (store_games_facts o) CanCommit (MayTakeStored o)
+
+-- what happened in a round up to its commit
+abbrev pub events_to_commit : Round → List Event
+events_to_commit r = (flat_map heard_events r.heard ++ end_events r.end) ++ r.commits
+
+-- THE LAW: Behind a round whose commit succeeded, before its answers go out, whatever a start may find of a game is what it keeps while it is open,
+-- or what it left.
+abbrev pub CommitsAreFound : {T P F K S L G : Type 0} → Outside T P F K S L → GamesFacts G → (G → List ℕ → List Event → Option (List ℕ) → Type 0) → Type 0
+CommitsAreFound {F} {G} o facts MayTake =
+    (form : LineForm) (texts : List (List ℕ)) (to : List Recipient) (old mid new : Server G F) (turns : List Turn) (r : Round) (stamp : List ℕ) (before : PlaceKeeper) (was : GameStatus PlaceKeeper) (past : List Event)
+    → InTurns o facts form texts old turns mid → IsRound o facts mid r new → r.committed ≡ Ok tt → IsAt (game_at old stamp) was
+    → IsDurableAfter (facts.places (facts.place old.shared.games) stamp) stamp past (run_events to turns ++ events_to_commit r)
+    → IsFoundBy (MayTake old.shared.games stamp past) before was
+    → TakenGame facts (facts.place old.shared.games) (common old) stamp before was (heard_in_turns turns ++ r.heard) (game_at new stamp) (Unit {0}) (MayFind (facts.places (facts.place old.shared.games) stamp) stamp (behind past (run_events to turns ++ events_to_commit r)))
+
+-- so it is of games in a store, where that is durable
+abbrev pub StoreCommitsAreFound : {T P F K S L : Type 0} → Outside T P F K S L → Type 0
+StoreCommitsAreFound o = CommitsAreFound o (store_games_facts o) (MayTakeStored o)

@@ -5,7 +5,7 @@ ghost use Rattle.game_folder.specs.OneGame.{one_game_facts};
 ghost use Rattle.served_games.specs.Durable.{GamesAreFound, KeepsAtOnce, RunsLast};
 ghost use Rattle.served_games.specs.FileHistories.{FilesAreDurable};
 ghost use Rattle.served_games.specs.FolderRuns.{FolderGamesKeepWhatTheyTold};
-ghost use Rattle.served_games.specs.InOrder.{StoreGamesAreTaken, StoreKeepsInOrder};
+ghost use Rattle.served_games.specs.InOrder.{StoreCommitsAreFound, StoreGamesAreTaken, StoreKeepsInOrder};
 ghost use Rattle.served_games.specs.Lasting.{EachLasts};
 ghost use Rattle.served_games.specs.OneGames.{OneGameKeepsWhatItTold};
 ghost use Rattle.served_games.specs.ServedGames.{GamesArePlayed, PlayedAreHosted};
@@ -93,4 +93,9 @@ pub fn store_games_keep_in_order<S: System>(_system: &S)
 /// find is what the game keeps or left.
 pub fn store_games_are_taken<S: System>(_system: &S)
     ensures { StoreGamesAreTaken (S.outside _system.now) }
+{}
+
+/// Behind a round whose commit to a store succeeded, whatever a start may find of a game there is what the game keeps or left.
+pub fn store_commits_are_found<S: System>(_system: &S)
+    ensures { StoreCommitsAreFound (S.outside _system.now) }
 {}
