@@ -90,8 +90,7 @@ module _ {T P F K S L : Type 0} (o : Outside T P F K S L) (stamp : List ℕ) whe
       → May g past got × ((found : Option (List ℕ)) → May g (behind past events) found → found ≡ got)
   took_sought g got past events last one durable =
       let path = o.store_path g.store in
-      let d = subst (IsDurableAfter (InStore path) stamp past) one durable in
-      (
+      let d = subst (IsDurableAfter (InStore path) stamp past) one durable in (
         subst (λ (l : Option (List ℕ)). HasBatch l got (InIt g past got)) (sym last) (d.0 refl refl),
         λ found m.
             let held : InIt g (behind past events) found = subst (λ (l : Option (List ℕ)). HasBatch l found (InIt g (behind past events) found)) last m in

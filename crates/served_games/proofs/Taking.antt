@@ -27,7 +27,7 @@ use Rattle.game_server.specs.Runs.{Answers as AnswersRound, Deed, HearsNone, InT
 use Rattle.game_server.specs.Seats.{common}
 use Rattle.game_server.specs.declared.server.Server.{Server}
 use Rattle.served_games.specs.Durable.{IsDurableAfter, MayFind, StaysFound, behind, left_before}
-use Rattle.served_games.specs.InOrder.{CommitsAreFound, FindsNoMore, GamesAreTaken, IsFoundBy, KeepsInOrder, TakenGame, events_to_commit}
+use Rattle.served_games.specs.InOrder.{CommitsAreFound, FindsNoMore, GamesAreTaken, FindsItsOwn, KeepsInOrder, TakenGame, events_to_commit}
 use Rattle.served_games.specs.PlaceKeepers.{Follows, PlaceKeeper, found_keeper}
 use Rattle.served_games.specs.ServedGames.{AreOverLeft, IsAt, IsOverLeft, IsPut, NothingPut, OpensOverLeft, PlaysAll, PutFails, PutsBy, all_acts, game_at, heard_by, heard_in_turns, is_for, life_by, life_through, made_for, reply_for}
 use Rattle.served_games.proofs.Asides.{aside_one, asides, end_aside, lines_aside, round_aside}
@@ -38,7 +38,7 @@ use Rattle.served_games.proofs.InTurn.{Look, LooksIn, MakesIn, MakesInTurn, NoLo
 use Rattle.served_games.proofs.Playing.{Next}
 use Rattle.served_games.proofs.Running.{StaysServer, played_one, same_game, stays_all, stays_by, stays_on, stays_one, turns_stay}
 
-found_less : (now was : Option (List ℕ) → Type 0) (before : PlaceKeeper) (life : Life) → FindsNoMore now was → IsFoundBy was before life → IsFoundBy now before life
+found_less : (now was : Option (List ℕ) → Type 0) (before : PlaceKeeper) (life : Life) → FindsNoMore now was → FindsItsOwn was before life → FindsItsOwn now before life
 found_less now was before Fresh less h = λ found m. h found (less found m)
 found_less now was before (Shut left) less h = λ found m. h found (less found m)
 found_less now was before (Open at) less h = λ found m. h found (less found m)
@@ -104,7 +104,7 @@ module _ {G : Type 0} (facts : GamesFacts G) (IsFit : G → Type 0) (May : G →
 
     -- what may be found, while more can be committed
     abbrev Found : G → Life → List Event → Type 0
-    Found games life past = IsFit games → IsFoundBy (May games stamp past) before life
+    Found games life past = IsFit games → FindsItsOwn (May games stamp past) before life
 
     puts_fit : (games now : G) (k after : PlaceKeeper) (events : List Event) → PutsBy facts place stamp games k after events now → IsFit now → IsFit games
     puts_fit games now k after events (NothingPut same none still) fit = subst IsFit still fit
@@ -143,7 +143,7 @@ module _ {G : Type 0} (facts : GamesFacts G) (IsFit : G → Type 0) (May : G →
     opens_fit : (games now : G) (events : List Event) (o : Opening PlaceKeeper) → OpensIn facts place stamp games o events now → IsFit now → IsFit games
     opens_fit games now events o b fit = order.takes_fit games b.mid stamp (Ok o.before.kept) b.taken b.takes (puts_fit b.mid now o.before o.now b.put b.puts fit)
 
-    is_over : (games : G) (past : List Event) (old : Life) (next : PlaceKeeper) → IsFoundBy (May games stamp past) before old → May games stamp past next.kept → IsOverLeft (left_before before old) next
+    is_over : (games : G) (past : List Event) (old : Life) (next : PlaceKeeper) → FindsItsOwn (May games stamp past) before old → May games stamp past next.kept → IsOverLeft (left_before before old) next
     is_over games past Fresh next h m = h next.kept m
     is_over games past (Shut left) next h m = h next.kept m
     is_over games past (Open now) next h m = tt
@@ -172,11 +172,11 @@ module _ {G : Type 0} (facts : GamesFacts G) (IsFit : G → Type 0) (May : G →
       found : Found now (life_by old act) (behind past events)
       stays : facts.place now ≡ place
 
-    answered_found : (games now : G) (past events : List Event) (here after : Moment PlaceKeeper) → PutsBy facts place stamp games here.keeper after.keeper events now → (after.arbiter.is_down ≡ false → after.keeper.unkept ≡ None) → IsFoundBy (May games stamp past) before (Open here) → (b : Bool) → after.arbiter.is_down ≡ b → IsFoundBy (May now stamp (behind past events)) before (cond b (Shut after.keeper) (Open after))
+    answered_found : (games now : G) (past events : List Event) (here after : Moment PlaceKeeper) → PutsBy facts place stamp games here.keeper after.keeper events now → (after.arbiter.is_down ≡ false → after.keeper.unkept ≡ None) → FindsItsOwn (May games stamp past) before (Open here) → (b : Bool) → after.arbiter.is_down ≡ b → FindsItsOwn (May now stamp (behind past events)) before (cond b (Shut after.keeper) (Open after))
     answered_found games now past events here after puts up h true is = λ found m. puts_taken games now past events here.keeper after.keeper puts h found m
     answered_found games now past events here after puts up h false is = λ found m. follows_kept after.keeper found (up is) (puts_taken games now past events here.keeper after.keeper puts h found m)
 
-    closed_found : (games now : G) (past events : List Event) (here : Moment PlaceKeeper) (left : PlaceKeeper) → left ≡ here.keeper → events ≡ [] → now ≡ games → IsFoundBy (May games stamp past) before (Open here) → IsFoundBy (May now stamp (behind past events)) before (Shut left)
+    closed_found : (games now : G) (past events : List Event) (here : Moment PlaceKeeper) (left : PlaceKeeper) → left ≡ here.keeper → events ≡ [] → now ≡ games → FindsItsOwn (May games stamp past) before (Open here) → FindsItsOwn (May now stamp (behind past events)) before (Shut left)
     closed_found games now past events here left is none same h = λ found m. inl (h found (no_event games now past events none same found m) ∙ ap (λ (x : PlaceKeeper). x.kept) (sym is))
 
     act_taken : (games now : G) → facts.place games ≡ place → (past events : List Event) (old : Life) (act : Action PlaceKeeper) → MakesIn facts place stamp games old act events now → IsDurableAfter at stamp past events → Found games old past → ActTaken games now past events old act
@@ -217,7 +217,7 @@ module _ {G : Type 0} (facts : GamesFacts G) (IsFit : G → Type 0) (May : G →
         let rest = acts_taken m.2 now one.stays (behind past m.0) m.1 (life_by old act) acts m.5 (durable_rest at stamp past m.0 m.1 both_durable) one.found in
         record {
           over = (one.over, subst (λ (l : Life). AreOverLeft l acts) (sym (left_act before old act)) rest.over);
-          found = λ fit. subst (λ (l : List Event). IsFoundBy (May now stamp l) before (life_through (life_by old act) acts)) (sym (ap (behind past) m.3 ∙ behind_join past m.0 m.1)) (rest.found fit);
+          found = λ fit. subst (λ (l : List Event). FindsItsOwn (May now stamp l) before (life_through (life_by old act) acts)) (sym (ap (behind past) m.3 ∙ behind_join past m.0 m.1)) (rest.found fit);
         }
 
   -- ---- what a datagram leaves fit
@@ -272,7 +272,7 @@ module _ {T P F K S L G : Type 0} (o : Outside T P F K S L) (facts : GamesFacts 
   here_on old new s h = record { there = s.place ∙ h.there; is = s.common_is ∙ h.is }
 
   abbrev FoundAt : Server G F → Life → List Event → Type 0
-  FoundAt server life past = IsFit server.shared.games → IsFoundBy (May server.shared.games stamp past) before life
+  FoundAt server life past = IsFit server.shared.games → FindsItsOwn (May server.shared.games stamp past) before life
 
   abbrev TakenOver : Life → List Heard → Server G F → List Event → Type 0
   TakenOver life hs new past = TakenGame facts place t stamp before life hs (game_at new stamp) (IsFit new.shared.games) (May new.shared.games stamp past)
@@ -292,7 +292,7 @@ module _ {T P F K S L G : Type 0} (o : Outside T P F K S L) (facts : GamesFacts 
   }
 
   at_past : (life : Life) (hs : List Heard) (server : Server G F) (past past' : List Event) → past' ≡ past → TakenOver life hs server past → TakenOver life hs server past'
-  at_past life hs server past past' same f = record { played = f.played; over = f.over; found = λ fit. subst (λ (l : List Event). IsFoundBy (May server.shared.games stamp l) before f.played.life) (sym same) (f.found fit) }
+  at_past life hs server past past' same f = record { played = f.played; over = f.over; found = λ fit. subst (λ (l : List Event). FindsItsOwn (May server.shared.games stamp l) before f.played.life) (sym same) (f.found fit) }
 
   nothing : (life : Life) (server : Server G F) (past : List Event) → IsAt (game_at server stamp) life → FoundAt server life past → TakenOver life [] server past
   unfolding PlaysAll
@@ -325,7 +325,7 @@ module _ {T P F K S L G : Type 0} (o : Outside T P F K S L) (facts : GamesFacts 
         at = n.at;
       };
       over = subst (AreOverLeft (left_before before life)) (sym (append-nil n.acts)) over;
-      found = λ fit. subst (IsFoundBy (May new.shared.games stamp (behind past h.events)) before) n.on.leads (f fit);
+      found = λ fit. subst (FindsItsOwn (May new.shared.games stamp (behind past h.events)) before) n.on.leads (f fit);
     }
 
     by_for : (n : Its) (b : Bool) → is_for stamp h ≡ b → TakenOver life (h ∷ []) new (behind past h.events)

@@ -87,16 +87,16 @@ StoreKeepsInOrder o = KeepsInOrder (store_games_facts o) CanCommit (MayTakeStore
 -- ---- a game in a run
 
 -- Whatever may be found is what the game keeps while it is open, or what it left; where it wasn't opened yet, what was left before.
-abbrev pub IsFoundBy : (Option (List ℕ) → Type 0) → PlaceKeeper → GameStatus PlaceKeeper → Type 0
-IsFoundBy may before Fresh = (found : Option (List ℕ)) → may found → Follows before (found_keeper found)
-IsFoundBy may before (Shut left) = (found : Option (List ℕ)) → may found → Follows left (found_keeper found)
-IsFoundBy may before (Open now) = (found : Option (List ℕ)) → may found → found ≡ now.keeper.kept
+abbrev pub FindsItsOwn : (Option (List ℕ) → Type 0) → PlaceKeeper → GameStatus PlaceKeeper → Type 0
+FindsItsOwn may before Fresh = (found : Option (List ℕ)) → may found → Follows before (found_keeper found)
+FindsItsOwn may before (Shut left) = (found : Option (List ℕ)) → may found → Follows left (found_keeper found)
+FindsItsOwn may before (Open now) = (found : Option (List ℕ)) → may found → found ≡ now.keeper.kept
 
 -- the acts of a game, each opening of which is over what was left; and what may be found after them, while more can be committed
 pub record TakenGame {G : Type 0} (facts : GamesFacts G) (place : facts.Place) (t : CommonView) (stamp : List ℕ) (before : PlaceKeeper) (was : GameStatus PlaceKeeper) (heard : List Heard) (now : Option (Moment DraftView)) (fit : Type 0) (may : Option (List ℕ) → Type 0) : Type 0 where
   pub played : PlayedGame facts place t stamp was heard now
   pub over : AreOverLeft (left_before before was) (all_acts played.each)
-  pub found : fit → IsFoundBy may before played.life
+  pub found : fit → FindsItsOwn may before played.life
 
 -- THE LAW: In a run each opening of a game is over what it left, and while more can be committed, whatever a taking may find is that.
 abbrev pub GamesAreTaken : {T P F K S L G : Type 0} → Outside T P F K S L → GamesFacts G → (G → Type 0) → (G → List ℕ → List Event → Option (List ℕ) → Type 0) → Type 0
@@ -104,7 +104,7 @@ GamesAreTaken {F} {G} o facts IsFit MayTake =
     (form : LineForm) (texts : List (List ℕ)) (to : List Recipient) (old new : Server G F) (turns : List Turn) (stamp : List ℕ) (before : PlaceKeeper) (was : GameStatus PlaceKeeper) (past : List Event)
     → InTurns o facts form texts old turns new → IsAt (game_at old stamp) was
     → IsDurableAfter (facts.places (facts.place old.shared.games) stamp) stamp past (run_events to turns)
-    → IsFoundBy (MayTake old.shared.games stamp past) before was
+    → FindsItsOwn (MayTake old.shared.games stamp past) before was
     → TakenGame facts (facts.place old.shared.games) (common old) stamp before was (heard_in_turns turns) (game_at new stamp) (IsFit new.shared.games) (MayTake new.shared.games stamp (behind past (run_events to turns)))
 
 -- of games in a store: so each opening in a run is over what was left, where the store is durable
@@ -122,7 +122,7 @@ CommitsAreFound {F} {G} o facts MayTake =
     (form : LineForm) (texts : List (List ℕ)) (to : List Recipient) (old mid new : Server G F) (turns : List Turn) (r : Round) (stamp : List ℕ) (before : PlaceKeeper) (was : GameStatus PlaceKeeper) (past : List Event)
     → InTurns o facts form texts old turns mid → IsRound o facts mid r new → r.committed ≡ Ok tt → IsAt (game_at old stamp) was
     → IsDurableAfter (facts.places (facts.place old.shared.games) stamp) stamp past (run_events to turns ++ events_to_commit r)
-    → IsFoundBy (MayTake old.shared.games stamp past) before was
+    → FindsItsOwn (MayTake old.shared.games stamp past) before was
     → TakenGame facts (facts.place old.shared.games) (common old) stamp before was (heard_in_turns turns ++ r.heard) (game_at new stamp) (Unit {0}) (MayFind (facts.places (facts.place old.shared.games) stamp) stamp (behind past (run_events to turns ++ events_to_commit r)))
 
 -- so it is of games in a store, where that is durable

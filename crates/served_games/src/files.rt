@@ -15,7 +15,7 @@ pub fn start<S: System>(
     alloc: Global,
     file: &mut S::File,
 ) -> Result<Option<Vec<u8>>, ReadFault>
-    ensures { CallsFile (S.outside system.now) ((S.outside system.now).path file.old) file.old file.new (Found ((S.outside system.now).path file.old) (found_by result)) }
+    ensures { let o = S.outside system.now in CallsFile o (o.path file.old) file.old file.new (Found (o.path file.old) (found_by result)) }
 {
     system.start(timeline, alloc, file)
 }
@@ -27,7 +27,7 @@ pub fn put<S: System>(
     file: &mut S::File,
     bytes: &[u8],
 ) -> io::Result<()>
-    ensures { CallsFile (S.outside system.now) ((S.outside system.now).path file.old) file.old file.new (Put ((S.outside system.now).path file.old) bytes.now (is_done result)) }
+    ensures { let o = S.outside system.now in CallsFile o (o.path file.old) file.old file.new (Put (o.path file.old) bytes.now (is_done result)) }
 {
     system.put(timeline, file, bytes)
 }

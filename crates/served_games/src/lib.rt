@@ -12,11 +12,11 @@
 //! draft as one over what is kept), `Opening`, `Going` (acts behind others), `Playing` (one datagram), `Running` (a run), `Telling` and `Lasting`
 //! (what was told, over acts and runs), `Finding` (what may be found behind acts), `Asides` (events that change nothing of it), `Following` (a
 //! run), `Enduring` (all runs); `Stamping` (stamps are bytes, and paths of two differ), `AtOnce` (files), `OneGames`, `FolderRuns`,
-//! `FileHistories`.
+//! `FileHistories`; `Reaching` and `InTurn` (what a datagram makes of the games), `InOrder` (a store), `Taking` (a run over it).
 //!
 //! Definitions, in reading order: `PlaceKeepers`, `ServedGames` (`GoesOn`, `PlaysAll`, `OpenedGame`), `Lasting` (`WhatWasToldLasts`), `Durable`
 //! (`MayFind`, `IsDurable`, `KeepsAtOnce`, `RunsLast`), `Unasked` (`Begins`), `OneGames` (`OneGameKeepsWhatItTold`), `FolderRuns`
-//! (`FolderGamesKeepWhatTheyTold`), `FileHistories` (`FilesAreDurable`).
+//! (`FolderGamesKeepWhatTheyTold`), `FileHistories` (`FilesAreDurable`), `InOrder` (`KeepsInOrder`, `GamesAreTaken`, `CommitsAreFound`).
 //!
 //! - CLAIM: `laws::games_are_played`; `laws::played_are_hosted`: in a run each game has its own acts, from where it was to where it is; for each
 //!   datagram of the game they have its reply, and the events that were made for it. They go on from one another as those of a host, where each
@@ -35,8 +35,14 @@
 //! - CLAIM: `laws::folder_games_keep_what_they_told`: so does what a game of a folder told, over all runs of new servers of the folder, where its
 //!   own file has the game's text whenever it is read, and the file of its record is durable.
 //! - CLAIM: `laws::files_are_durable`; `files::start`, `files::put`: a file is durable, where each call at it does what `System` promises.
+//! - CLAIM: `laws::store_games_keep_in_order`; `laws::store_games_are_taken`: records that are noted, and committed to a store, are kept in order,
+//!   call by call; so in a run, where the store is durable, each opening is over what was left, and while more can be committed, what a taking
+//!   may find is what the game keeps or left, whether or not that is committed.
+//! - CLAIM: `laws::store_commits_are_found`: behind a round whose commit to a store succeeded, whatever a start may find of a game is what it keeps
+//!   or left.
 //!
-//! Not said: of events in a store, that what was told lasts (no clause ties what is taken to what was noted last).
+//! Not said: over all runs of a store, that what was told lasts. Behind a commit that was broken off a start finds the whole batch or what was
+//! there before, so which of a run's acts count is known only by what is found later.
 #![tactic(auto)]
 
 pub mod files;
