@@ -167,9 +167,12 @@ def spec_of(crate, path, module):
     lines = path.read_text().split("\n")
     items, comment = {}, []
     for line in lines:
-        named = re.match(r"(?:\w+ )*?pub (?:(?:record|data|abbrev|unfoldable|type) )?(?!mod\b)([^\W\d]\w*)", line)
-        if line.startswith("--"):
-            comment.append(line.removeprefix("--").strip())
+        # In a `module _` a definition is indented; a line `pub NAME` there is a field.
+        named = re.match(r"(?:\w+ )*?pub (?:(?:record|data|abbrev|unfoldable|type) )?(?!mod\b)([^\W\d]\w*)", line) or re.match(
+            r"\s+(?:(?:abbrev|unfoldable) pub|pub (?:record|data)) ([^\W\d]\w*)", line
+        )
+        if line.strip().startswith("--"):
+            comment.append(line.strip().removeprefix("--").strip())
             continue
         if named:
             items[named.group(1)] = " ".join(comment)

@@ -6,7 +6,7 @@ use Rattle.arbiter_server.specs.declared.fault.OpenGameError.{OpenGameError}
 use Rattle.arbiter_server.specs.declared.fault.Uncommitted.{Uncommitted}
 use Rattle.arbiter_server.specs.declared.games.GameConfig.{GameConfig}
 use Rattle.timeline.specs.Events.{Event, Sent, is_done}
-use Rattle.timeline.specs.Outsides.{Outside}
+use Rattle.timeline.specs.Outsides.{AddsSome, Outside}
 use Rattle.game_folder.specs.Drafts.{settled}
 use Rattle.game_folder.specs.Places.{Held, InFile, InStore, KeptAt, Places, WasKept}
 use Rattle.game_folder.specs.declared.games.KeptGame.{KeptGame}
@@ -94,6 +94,10 @@ module _ {G : Type 0} (facts : GamesFacts G) where
     pub none : before.draft.to_put ≡ None → (events ≡ []) × (new ≡ old) × IsOk result
     pub some : (bytes : List ℕ) → before.draft.to_put ≡ Some bytes → facts.keeps old before.stamp bytes (is_done result) events new
     pub known : (bytes : List ℕ) → before.draft.to_put ≡ Some bytes → OnOk result (known new events before.stamp bytes)
+
+  -- so it is from one moment to another
+  abbrev pub KeepsIn : {T P F K S L A E : Type 0} → Outside T P F K S L → G → G → KeptGame F → KeptGame F → T → T → Result A E → Type 0
+  KeepsIn o old new before after t t' result = AddsSome o t t' (KeepsGame o old new before after result)
 
   -- what was noted is committed, or that fails; then it stays noted, and nothing is announced
   pub record CommitsGames {A : Type 0} (old new : G) (result : Result A Uncommitted) (events : List Event) : Type 0 where

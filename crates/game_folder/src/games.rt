@@ -1,6 +1,6 @@
 //! Where games are found, and their records kept.
 
-ghost use Rattle.game_folder.specs.Holdings.{CommitsGames, FindsGame, GamesFacts, IsKeptIn, KeepsGame, TakesGame};
+ghost use Rattle.game_folder.specs.Holdings.{CommitsGames, FindsGame, GamesFacts, IsKeptIn, KeepsIn, TakesGame};
 ghost use Rattle.timeline.specs.Outsides.{AddsSome};
 
 use crate::draft::Draft;
@@ -55,7 +55,7 @@ pub trait Games<S: System> {
         game: &mut KeptGame<S::File>,
     ) -> Result<(), OpenGameError>
         requires { IsKeptIn (S.outside system.now) ((facts system.now).places ((facts system.now).place self.old) game.old.stamp) game.old.file }
-        ensures made { let o = S.outside system.now in AddsSome o timeline.old timeline.new (KeepsGame (facts system.now) o self.old self.new game.old game.new result) };
+        ensures made { KeepsIn (facts system.now) (S.outside system.now) self.old self.new game.old game.new timeline.old timeline.new result };
 
     /// Commits what was noted. No answer to a datagram goes out before. After an error it stays noted; where that isn't for want of memory
     /// alone, no more can be committed.

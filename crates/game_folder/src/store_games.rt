@@ -6,7 +6,7 @@ ghost use Rattle.arbiter_server.specs.GameFolders.{HasGame};
 ghost use Rattle.timeline.specs.Events.{bytes_found, done_by};
 ghost use Rattle.timeline.specs.Outsides.{AddsSome};
 ghost use Rattle.game_folder.specs.FolderGames.{LacksFile};
-ghost use Rattle.game_folder.specs.Holdings.{CommitsGames, FindsGame, IsKeptIn, KeepsGame, TakesGame, kept_of};
+ghost use Rattle.game_folder.specs.Holdings.{CommitsGames, FindsGame, IsKeptIn, KeepsIn, TakesGame, kept_of};
 ghost use Rattle.game_folder.specs.Places.{InStore};
 ghost use Rattle.game_folder.specs.StoreGames.{CommitsNoted, IsCountOf, IsEntryFor, IsInStore, LeavesNoted, LooksUpRecord, MayGive, Notes, StoredGames, Stores, given_record, kept_bytes, last_noted, loss_told, store_games_facts};
 
@@ -235,7 +235,7 @@ impl<'f, S: System> Games<S> for StoreGames<'f, S> {
         game: &mut KeptGame<S::File>,
     ) -> Result<(), OpenGameError>
         requires { IsKeptIn (S.outside system.now) (InStore ((S.outside system.now).store_path self.old.store)) game.old.file }
-        ensures made { let o = S.outside system.now in AddsSome o _timeline.old _timeline.new (KeepsGame (store_games_facts o) o self.old self.new game.old game.new result) }
+        ensures made { let o = S.outside system.now in KeepsIn (store_games_facts o) o self.old self.new game.old game.new _timeline.old _timeline.new result }
         ensures noted { Notes self.old game.old.stamp game.old.draft.to_put result self.new }
     {
         let Some(bytes) = game.draft.to_put() else {

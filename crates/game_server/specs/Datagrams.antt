@@ -7,7 +7,7 @@ use Rattle.move_msg.specs.Messages.{stamp_in}
 use Rattle.move_msg.specs.declared.message.Message.{Message}
 use Rattle.move_msg.specs.declared.message.MessageFault.{MessageFault}
 use Rattle.timeline.specs.Events.{Event}
-use Rattle.timeline.specs.Outsides.{Outside}
+use Rattle.timeline.specs.Outsides.{AddsSome, Outside}
 use Rattle.game_folder.specs.Drafts.{DraftView}
 use Rattle.game_server.specs.Fates.{Answered, Fate, GoesTo, Unopened, Unread, fate_leaves, is_lost_at}
 use Rattle.game_folder.specs.Holdings.{GamesFacts, IsQuiet, StaysNoted}
@@ -57,3 +57,7 @@ pub record HearsDatagram {T P F K S L G : Type 0} (o : Outside T P F K S L) (fac
   pub seats : AreSeats o facts new
   pub backed : (before : List Event) → AreKnown facts old before → AreBacked facts new.shared.games (before ++ events) reply.outputs.items
   pub knows : (before : List Event) → AreKnown facts old before → AreKnown facts new (before ++ events)
+
+-- so it is from one moment to another
+abbrev pub HearsIn : {T P F K S L G : Type 0} → Outside T P F K S L → GamesFacts G → Server G F → Server G F → List ℕ → T → T → Reply → Type 0
+HearsIn o facts old new datagram t t' reply = AddsSome o t t' (HearsDatagram o facts old new datagram reply)

@@ -8,8 +8,9 @@ use Rattle.system_io.specs.declared.recipient.Recipient.{Recipient}
 use Rattle.timeline.specs.Events.{Event, Missed}
 use Rattle.timeline.specs.Outsides.{Adds, Outside}
 use Rattle.game_folder.specs.Holdings.{GamesFacts}
-use Rattle.game_server.specs.Printing.{LineForm, WritesLines, after_lines}
+use Rattle.game_server.specs.Printing.{LineForm, WritesLines, after_lines, form_in}
 use Rattle.game_server.specs.Rounds.{IsRound, Round, TakesUpTo, is_loss, lines_of, round_events}
+use Rattle.game_server.specs.declared.running.PortServer.{PortServer}
 use Rattle.game_server.specs.declared.server.Server.{Server}
 
 -- datagrams came, and were answered; or none could be received
@@ -104,3 +105,7 @@ pub record Serves {T P F K S L G : Type 0} (o : Outside T P F K S L) (facts : Ga
   pub within : AreWithin most n (with_last turns last)
   pub ends : RunEnds n (came turns) last result
   pub happens : Adds o t t' (run_events to (with_last turns last))
+
+-- so does one at a port, over the texts that it knows of none
+abbrev pub ServesPort : {T P F K S L G : Type 0} → Outside T P F K S L → GamesFacts G → ℕ → PortServer G F → PortServer G F → P → T → T → Result ℕ WriteFault → Type 0
+ServesPort o facts n old new port t t' result = Serves o facts old.replies.most (form_in old.lines) [] n (o.port port).to old.server new.server t t' result

@@ -15,11 +15,11 @@ use Rattle.move_msg.specs.declared.message.Message.{Message}
 use Rattle.move_msg.specs.declared.message.Message.TheVariants.{Fetch}
 use Rattle.move_msg.specs.declared.stamp.Stamp.{Stamp}
 use Rattle.timeline.specs.Events.{Event}
-use Rattle.timeline.specs.Outsides.{Outside}
+use Rattle.timeline.specs.Outsides.{Adds, AddsSome, Outside}
 use Rattle.game_folder.specs.Holdings.{GamesFacts}
 use Rattle.game_server.specs.Datagrams.{HearsDatagram}
 use Rattle.game_server.specs.Seats.{open_at}
-use Rattle.game_server.specs.Sending.{request}
+use Rattle.game_server.specs.Sending.{address_of, request, request_sent}
 use Rattle.game_server.specs.declared.seat.Reply.{Reply}
 use Rattle.game_server.specs.declared.seat.Seat.{Seat}
 use Rattle.game_server.specs.declared.server.Server.{Server}
@@ -50,6 +50,10 @@ pub record OpensUnasked {T P F K S L G : Type 0} (o : Outside T P F K S L) (fact
   pub told : result ≡ opened_by reply.line
   pub is_open : OnOk result (IsSome (open_at new stamp))
 
+-- so it is from one moment to another
+abbrev pub OpensIn : {T P F K S L G : Type 0} → Outside T P F K S L → GamesFacts G → Server G F → Server G F → Stamp → T → T → Result (Unit {0}) OpenGameError → Type 0
+OpensIn o facts old new stamp t t' result = AddsSome o t t' (OpensUnasked o facts old new stamp result)
+
 -- the request for moves of a game that is open, if it has one
 abbrev pub request_of : {F : Type 0} → Holding → Option (Seat F) → Option Message
 request_of set None = None
@@ -57,3 +61,7 @@ request_of set (Some seat) = request (awake seat.state set)
 
 abbrev pub request_at : {G F : Type 0} → Server G F → List ℕ → Option Message
 request_at server stamp = request_of server.shared.tables (open_at server stamp)
+
+-- it goes to each recipient of a port, from one moment to another
+abbrev pub AsksIn : {T P F K S L G : Type 0} → Outside T P F K S L → P → Server G F → List ℕ → T → T → Type 0
+AsksIn o port server stamp t t' = Adds o t t' (request_sent (address_of (o.port port)) (request_at server stamp))

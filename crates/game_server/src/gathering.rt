@@ -1,9 +1,9 @@
 //! Datagrams that are answered together.
 
 ghost use Rattle.std.specs.Prelude.{◌≡◌, ◌<◌, ◌≤◌, IfOk, IfSome, false, length, Ok, None};
-ghost use Rattle.timeline.specs.Outsides.{AddsSome, SendsToSame};
+ghost use Rattle.timeline.specs.Outsides.{SendsToSame};
 ghost use Rattle.game_server.specs.Seats.{AreSeats};
-ghost use Rattle.game_server.specs.Inside.Running.{GathersFrom, HearsOne, ReceivesNext};
+ghost use Rattle.game_server.specs.Inside.Running.{GathersFrom, HearsOneIn, ReceivesNext};
 
 use crate::hearing::hear;
 use crate::replies::{Held, Replies};
@@ -48,7 +48,7 @@ fn hear_one<'a, S: System, G: Games<S> + Drop>(
 )
     requires seats { AreSeats (S.outside system.now) (G.facts system.now) server.old }
     requires room { length replies.old.held < replies.old.most }
-    ensures made { AddsSome (S.outside system.now) timeline.old timeline.new (HearsOne (S.outside system.now) (G.facts system.now) server.old server.new bytes.now sender replies.old replies.new) }
+    ensures made { HearsOneIn (S.outside system.now) (G.facts system.now) server.old server.new bytes.now sender replies.old replies.new timeline.old timeline.new }
 {
     let reply = hear(server, system, timeline, bytes);
     replies.add(Held { reply, sender });
@@ -67,7 +67,8 @@ pub(crate) fn gather<'a, S: System, G: Games<S> + Drop>(
     requires seats { AreSeats (S.outside system.now) (G.facts system.now) server.old }
     requires some { 0 < most }
     requires room { most ≤ replies.old.most }
-    ensures gathers { GathersFrom (S.outside system.now) (G.facts system.now) most server.old server.new port.old port.new replies.old replies.new timeline.old timeline.new result }
+    ensures gathers { GathersFrom (S.outside system.now) (G.facts system.now) most server.old server.new replies.old replies.new timeline.old timeline.new result }
+    ensures same { SendsToSame ((S.outside system.now).port port.old) ((S.outside system.now).port port.new) }
     ensures seats { AreSeats (S.outside system.now) (G.facts system.now) server.new }
 {
     let mut buffer = [0u8; 64];

@@ -2,9 +2,8 @@
 
 ghost use Rattle.std.specs.Prelude.{◌≡◌, IsSome};
 ghost use Rattle.move_msg.specs.Messages.{stamp_in};
-ghost use Rattle.timeline.specs.Outsides.{AddsSome};
 ghost use Rattle.game_server.specs.Seats.{AreSeats, open_at};
-ghost use Rattle.game_server.specs.Datagrams.{HearsDatagram};
+ghost use Rattle.game_server.specs.Datagrams.{HearsIn};
 ghost use Rattle.game_server.specs.Inside.Seating.{AnswersAtIn, AnswersFromIn, AnswersMessageIn, BringsIn};
 
 use crate::room::put_in;
@@ -103,7 +102,7 @@ pub fn hear<'a, S: System, G: Games<S> + Drop>(
     bytes: &[u8],
 ) -> Reply
     requires { AreSeats (S.outside system.now) (G.facts system.now) server.old }
-    ensures made { AddsSome (S.outside system.now) timeline.old timeline.new (HearsDatagram (S.outside system.now) (G.facts system.now) server.old server.new bytes.now result) }
+    ensures made { HearsIn (S.outside system.now) (G.facts system.now) server.old server.new bytes.now timeline.old timeline.new result }
 {
     match Message::decode(bytes) {
         Ok(message) => answer(server, system, timeline, &message),

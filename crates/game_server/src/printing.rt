@@ -1,11 +1,11 @@
 //! The lines of a round are written, and go out.
 
-ghost use Rattle.std.specs.Prelude.{◌≡◌, [], ◌∷◌, List, ℕ, OnErr};
+ghost use Rattle.std.specs.Prelude.{◌≡◌, [], ◌∷◌, OnErr};
 ghost use Rattle.timeline.specs.Events.{is_done};
 ghost use Rattle.timeline.specs.Outsides.{AddsSome};
-ghost use Rattle.game_server.specs.Printing.{KnowsLines, OutputFails};
+ghost use Rattle.game_server.specs.Printing.{OutputFails};
 ghost use Rattle.game_server.specs.Rounds.{withheld_line};
-ghost use Rattle.game_server.specs.Inside.Running.{IsTextEnd, WritesAll, held_line, held_lines};
+ghost use Rattle.game_server.specs.Inside.Running.{IsTextEnd, PrintsIn, held_line, held_lines};
 
 use crate::lines::Lines;
 use crate::replies::Held;
@@ -35,7 +35,7 @@ pub(crate) fn print_line<S: System>(
     lines: &mut Lines,
     line: Line,
 ) -> Result<(), WriteFault>
-    ensures made { (before : List (List ℕ)) → KnowsLines lines.old before → WritesAll (S.outside system.now) before lines.old lines.new (line ∷ []) timeline.old timeline.new result }
+    ensures made { PrintsIn (S.outside system.now) lines.old lines.new (line ∷ []) timeline.old timeline.new result }
     ensures cause { OnErr result (OutputFails (S.outside system.now)) }
 {
     match lines.pick(line) {
@@ -76,7 +76,7 @@ pub(crate) fn print_lines<S: System>(
     held: &[Held],
     are_sent: bool,
 ) -> Result<(), WriteFault>
-    ensures made { (before : List (List ℕ)) → KnowsLines lines.old before → WritesAll (S.outside system.now) before lines.old lines.new (held_lines are_sent held.now) timeline.old timeline.new result }
+    ensures made { PrintsIn (S.outside system.now) lines.old lines.new (held_lines are_sent held.now) timeline.old timeline.new result }
     ensures cause { OnErr result (OutputFails (S.outside system.now)) }
 {
     for one in held {

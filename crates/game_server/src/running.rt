@@ -1,13 +1,13 @@
 //! A server at a port: a round of datagrams after another.
 
-ghost use Rattle.std.specs.Prelude.{◌≡◌, ◌<◌, ◌≤◌, [], IfOk, List, ℕ, OnErr};
+ghost use Rattle.std.specs.Prelude.{◌≡◌, ◌<◌, ◌≤◌, [], IfOk, OnErr};
 ghost use Rattle.arbiter_server.specs.Games.{common_with};
-ghost use Rattle.timeline.specs.Outsides.{Adds, SendsToSame};
+ghost use Rattle.timeline.specs.Outsides.{SendsToSame};
 ghost use Rattle.game_server.specs.Orders.{EarnsFrom};
 ghost use Rattle.game_server.specs.Printing.{KnowsLines, OutputFails, form_in};
-ghost use Rattle.game_server.specs.Runs.{Serves};
+ghost use Rattle.game_server.specs.Runs.{ServesPort};
 ghost use Rattle.game_server.specs.Seats.{AreKnown, AreSeats, IsNewServer};
-ghost use Rattle.game_server.specs.Inside.Running.{ConcludesRound, EndsTurn, IsNewPortServer, TakesTurn};
+ghost use Rattle.game_server.specs.Inside.Running.{ConcludesIn, EndsIn, IsNewPortServer, TurnsIn};
 
 use crate::gathering::gather;
 use crate::lines::Lines;
@@ -75,7 +75,7 @@ fn end<S: System>(
     lines: &mut Lines,
     line: Line,
 ) -> Result<AfterRound, WriteFault>
-    ensures made { (before : List (List ℕ)) → KnowsLines lines.old before → EndsTurn (S.outside system.now) before lines.old lines.new line timeline.old timeline.new result }
+    ensures made { EndsIn (S.outside system.now) lines.old lines.new line timeline.old timeline.new result }
     ensures cause { OnErr result (OutputFails (S.outside system.now)) }
 {
     match print_line(system, timeline, lines, line) {
@@ -94,7 +94,7 @@ fn conclude<S: System>(
     are_sent: bool,
 ) -> Result<AfterRound, WriteFault>
     ensures same { SendsToSame ((S.outside system.now).port port.old) ((S.outside system.now).port port.new) }
-    ensures made { (before : List (List ℕ)) → KnowsLines lines.old before → ConcludesRound (S.outside system.now) before ((S.outside system.now).port port.old).to are_sent replies.now.held lines.old lines.new timeline.old timeline.new result }
+    ensures made { ConcludesIn (S.outside system.now) port.old are_sent replies.now.held lines.old lines.new timeline.old timeline.new result }
     ensures cause { OnErr result (OutputFails (S.outside system.now)) }
 {
     send_if(system, timeline, port, replies.held(), are_sent);
@@ -118,7 +118,7 @@ fn round<'a, S: System, G: Games<S> + Drop>(
     requires few { most ≤ at.old.replies.most }
     ensures seats { AreSeats (S.outside system.now) (G.facts system.now) at.new.server }
     ensures same { SendsToSame ((S.outside system.now).port port.old) ((S.outside system.now).port port.new) }
-    ensures made { (before : List (List ℕ)) → KnowsLines at.old.lines before → TakesTurn (S.outside system.now) (G.facts system.now) before most at.old at.new port.old timeline.old timeline.new result }
+    ensures made { TurnsIn (S.outside system.now) (G.facts system.now) most at.old at.new port.old timeline.old timeline.new result }
     ensures most { at.new.replies.most ≡ at.old.replies.most }
     ensures cause { OnErr result (OutputFails (S.outside system.now)) }
 {
@@ -163,7 +163,7 @@ pub fn serve<'a, S: System, G: Games<S> + Drop>(
 ) -> Result<u8, WriteFault>
     requires seats { AreSeats (S.outside system.now) (G.facts system.now) at.old.server }
     requires none { KnowsLines at.old.lines [] }
-    ensures run { Serves (S.outside system.now) (G.facts system.now) at.old.replies.most (form_in at.old.lines) [] n ((S.outside system.now).port port.old).to at.old.server at.new.server timeline.old timeline.new result }
+    ensures run { ServesPort (S.outside system.now) (G.facts system.now) n at.old at.new port.old timeline.old timeline.new result }
     ensures same { SendsToSame ((S.outside system.now).port port.old) ((S.outside system.now).port port.new) }
     ensures most { at.new.replies.most ≡ at.old.replies.most }
     ensures form { form_in at.new.lines ≡ form_in at.old.lines }

@@ -4,10 +4,9 @@ ghost use Rattle.std.specs.Prelude.{◌≡◌, [], None};
 ghost use Rattle.arbiter_server.specs.Games.{IsGameOf};
 ghost use Rattle.arbiter_server.specs.Told.{unopened_by};
 ghost use Rattle.move_msg.specs.Messages.{stamp_in};
-ghost use Rattle.timeline.specs.Outsides.{AddsSome};
 ghost use Rattle.game_folder.specs.Holdings.{IsKeptIn};
 ghost use Rattle.game_server.specs.Seats.{IsSeat};
-ghost use Rattle.game_server.specs.Inside.Seating.{DeliversIn, OpensForIn, OpensOverKept, OpensTaken};
+ghost use Rattle.game_server.specs.Inside.Seating.{DeliversIn, OpensForIn, OpensOverIn, OpensTakenIn};
 
 use crate::lookup::{found, opens_game};
 use crate::seat::{Answer, Reply, Seat};
@@ -44,7 +43,7 @@ fn open_over<'a, S: System, G: Games<S> + Drop>(
     requires game { IsGameOf shared.old.config.manifest.now kept.stamp game.name.items game.start game.delay }
     requires within { IsKeptIn (S.outside system.now) ((G.facts system.now).places ((G.facts system.now).place shared.old.games) kept.stamp) kept.file }
     requires clean { kept.draft.to_put ≡ None }
-    ensures made { AddsSome (S.outside system.now) timeline.old timeline.new (OpensOverKept (S.outside system.now) (G.facts system.now) shared.old shared.new kept game result) }
+    ensures made { OpensOverIn (S.outside system.now) (G.facts system.now) shared.old shared.new kept game timeline.old timeline.new result }
 {
     let GameConfig { name, start, delay } = game;
     let terms = Terms {
@@ -73,7 +72,7 @@ fn open_found<'a, S: System, G: Games<S> + Drop>(
     game: GameConfig,
 ) -> Result<Seat<'a, S::File>, OpenGameError>
     requires { IsGameOf shared.old.config.manifest.now stamp game.name.items game.start game.delay }
-    ensures made { AddsSome (S.outside system.now) timeline.old timeline.new (OpensTaken (S.outside system.now) (G.facts system.now) shared.old shared.new stamp game result) }
+    ensures made { OpensTakenIn (S.outside system.now) (G.facts system.now) shared.old shared.new stamp game timeline.old timeline.new result }
 {
     match shared.games.take(shared.alloc, system, timeline, stamp) {
         Ok(kept) => open_over(shared, system, timeline, kept, game),

@@ -1,10 +1,10 @@
 //! A game that is opened before any message of it came, and its request for moves.
 
 ghost use Rattle.std.specs.Prelude.{◌≡◌};
-ghost use Rattle.timeline.specs.Outsides.{Adds, AddsSome, HeardNothing};
+ghost use Rattle.timeline.specs.Outsides.{HeardNothing};
 ghost use Rattle.game_server.specs.Seats.{AreSeats};
-ghost use Rattle.game_server.specs.Sending.{IsRequestSpelled, address_of, request_sent};
-ghost use Rattle.game_server.specs.Starting.{OpensUnasked, opened_by, opener, request_at};
+ghost use Rattle.game_server.specs.Sending.{IsRequestSpelled};
+ghost use Rattle.game_server.specs.Starting.{AsksIn, OpensIn, opened_by, opener, request_at};
 
 use crate::hearing::hear;
 use crate::running::PortServer;
@@ -50,7 +50,7 @@ pub fn open_game<'a, S: System, G: Games<S> + Drop>(
     stamp: Stamp,
 ) -> Result<(), OpenGameError>
     requires { AreSeats (S.outside system.now) (G.facts system.now) at.old.server }
-    ensures made { AddsSome (S.outside system.now) timeline.old timeline.new (OpensUnasked (S.outside system.now) (G.facts system.now) at.old.server at.new.server stamp result) }
+    ensures made { OpensIn (S.outside system.now) (G.facts system.now) at.old.server at.new.server stamp timeline.old timeline.new result }
     ensures replies { at.new.replies ≡ at.old.replies }
     ensures lines { at.new.lines ≡ at.old.lines }
 {
@@ -78,7 +78,7 @@ pub fn ask<'a, S: System, G: Games<S> + Drop>(
 )
     ensures same { HeardNothing ((S.outside system.now).port port.old) ((S.outside system.now).port port.new) }
     ensures spelled { IsRequestSpelled (request_at at.now.server stamp) }
-    ensures made { Adds (S.outside system.now) timeline.old timeline.new (request_sent (address_of ((S.outside system.now).port port.old)) (request_at at.now.server stamp)) }
+    ensures made { AsksIn (S.outside system.now) port.old at.now.server stamp timeline.old timeline.new }
 {
     if let Some(message) = request_at(&at.server, stamp) {
         send_one(system, timeline, port, &message);

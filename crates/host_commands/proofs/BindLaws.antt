@@ -1,11 +1,11 @@
 -- Ports that are asked for, and locks.
-use Rattle.std.proofs.Common.{◌≡◌, ◌∷◌, ◌++◌, ◌∙◌, [], ℕ, List, ap, inl, inr, refl, subst, sym}
+use Rattle.std.proofs.Common.{◌≡◌, ◌∷◌, ◌++◌, [], ℕ, List, ap, inl, inr, refl, subst, sym}
 use Rattle.std.specs.Prelude.{Result, Ok, Err, IfErr, IfOk, ◌<◌, length}
 use Rattle.answer_parts.specs.Lines.{refused_in_use}
 use Rattle.arbiter_server.specs.ServedLines.{refused_port}
 use Rattle.command_line.specs.Addresses.{addresses_of}
 use Rattle.line_teller.specs.ToldLines.{refused_memory}
-use Rattle.host_commands.specs.Binds.{BindsPort, IsBound, IsPortOf, NoRoomForAddresses, NoRoomToBind, Unbound, unbound_line}
+use Rattle.host_commands.specs.Binds.{BindsPort, IsBound, NoRoomForAddresses, NoRoomToBind, Unbound, unbound_line}
 use Rattle.host_commands.specs.Inside.Parts.{AsksForPort}
 use Rattle.host_commands.specs.Locks.{InUse, LocksFile, held_line}
 use Rattle.host_commands.specs.Notes.{MayNote}
@@ -39,7 +39,7 @@ module _ {T P F K S L : Type 0} (o : Outside T P F K S L) (address to : List ℕ
   unbound_so a b c p q = adds_both o a b c (AsksForPort o address to (Err bind.Unbound)) (MayNote (unbound_line address)) (BindsPort o address to (Err refused_port)) both p q
     where
       both : (x y : List Event) → AsksForPort o address to (Err bind.Unbound) x → MayNote (unbound_line address) y → BindsPort o address to (Err refused_port) (x ++ y)
-      both x y (inl (refuses, is)) note = Unbound refuses y note refl (ap (λ (l : List Event). l ++ y) is)
+      both x y (inl (refuses, is)) note = Unbound refuses refl (record { noting = y; notes = note; all = ap (λ (l : List Event). l ++ y) is })
       both x y (inr (wrong, many, none)) note = absurd (cc)
 
   pub no_room_so : (a b : T) → AddsSome o a b (AsksForPort o address to (Err bind.OutOfMemory)) → AddsSome o a b (BindsPort o address to (Err refused_memory))
@@ -51,4 +51,4 @@ module _ {T P F K S L : Type 0} (o : Outside T P F K S L) (address to : List ℕ
 
 -- another process holds a lock, and that may have been noted
 pub held_so : {T P F K S L : Type 0} (o : Outside T P F K S L) (path : List ℕ) (a b c : T) → o.bars_lock path lock.Held → Adds o a b (Locked path (Err lock.Held) ∷ []) → AddsSome o b c (MayNote (held_line path)) → AddsSome o a c (LocksFile o path (Err refused_in_use))
-held_so o path a b c bars p q = (Locked path (Err lock.Held) ∷ [] ++ q.0, adds_more o a b c (Locked path (Err lock.Held) ∷ []) q.0 p q.1, InUse bars q.0 q.2 refl refl)
+held_so o path a b c bars p q = (Locked path (Err lock.Held) ∷ [] ++ q.0, adds_more o a b c (Locked path (Err lock.Held) ∷ []) q.0 p q.1, InUse bars refl (record { noting = q.0; notes = q.2; all = refl }))

@@ -1,6 +1,6 @@
 -- Games are looked at one after the other, and what comes is put into a store.
-use Rattle.std.proofs.Common.{◌≡◌, ◌∙◌, ◌∷◌, ◌++◌, ◌+◌, [], ℕ, List, append_assoc, ap, drop, drop-cons, get_or, length, map, refl, subst, suc, sym, take, take-append-drop}
-use Rattle.std.proofs.lemmas.List.{map-append, take_all, take_more}
+use Rattle.std.proofs.Common.{◌≡◌, ◌∙◌, ◌∷◌, ◌++◌, ◌+◌, [], ℕ, List, ap, drop, drop-cons, get_or, length, refl, subst, suc, sym, take, take-append-drop}
+use Rattle.std.proofs.lemmas.List.{map-append, take_more}
 use Rattle.std.proofs.lemmas.List.Concat.{flat_map-append}
 use Rattle.std.specs.Cmp.Lexicographic.{slice_cmp}
 use Rattle.std.specs.Global.{Global}
@@ -12,8 +12,8 @@ use Rattle.answer_parts.specs.Lines.{refusal_words}
 use Rattle.answer_parts.specs.declared.answers.refusals.Refusal.{Refusal}
 use Rattle.game_status.proofs.ListingLaws.{are_stamps}
 use Rattle.game_status.specs.Listings.{AddsStamps, AreStampsIn, kept_ending}
-use Rattle.host_commands.specs.Imports.{AllImported, AreListed, AllSeen, FolderIsNot, Imported, ImportsRecords, IsLook, Look, LooksAtAll, NoRoomFor, NoRoomForStamps, NotPut, OneFails, OneUnseen, PutsComing, all_look_events, coming, entry_in, left_by, left_in, look_events, stamps_of}
-use Rattle.host_commands.specs.Inside.Importing.{AddsSeen, AreArrivals, CannotListKept, ListsKept, LooksAtThese, NoNames, NoRoomForThem, SeesGame, imported_or, look_of, put_or}
+use Rattle.host_commands.specs.Imports.{AllImported, AreListed, AllSeen, FolderIsNot, ImportsRecords, IsLook, ListsAndLooks, Look, LooksAndPuts, LooksAtAll, NoRoomFor, NoRoomForStamps, NotPut, OneFails, OneUnseen, PutsComing, all_look_events, entry_in, left_by, look_events, stamps_of}
+use Rattle.host_commands.specs.Inside.Importing.{AddsSeen, AreArrivals, CannotListKept, ListsKept, LooksAtThese, NoNames, NoRoomForThem, SeesGame, imported_or, look_of}
 use Rattle.host_commands.specs.declared.arriving.Seen.{Seen}
 use Rattle.host_commands.specs.declared.importing.Arrivals.{Arrivals}
 use Rattle.line_teller.specs.ToldLines.{refused_memory}
@@ -60,9 +60,9 @@ module _ {T P F K S L : Type 0} (o : Outside T P F K S L) (folder : List ℕ) (s
       let before : List Event = all_look_events (o.store_path store) folder w.looks in
       record {
         looks = w.looks ++ look ∷ [];
-        all = all_looks w.looks look w.all p.2.2;
+        all = all_looks w.looks look w.all p.2.1.1;
         are = map-append (λ (l : Look). l.stamp) w.looks (look ∷ []) ∙ ap (λ (l : List (List ℕ)). l ++ stamp ∷ []) w.are;
-        made = subst (Adds o a c) (ap (λ (e : List Event). before ++ e) p.2.3 ∙ sym (pushed (look_events (o.store_path store) folder) w.looks look)) (adds_more o a b c before p.0 w.made p.1);
+        made = subst (Adds o a c) (ap (λ (e : List Event). before ++ e) p.2.1.2 ∙ sym (pushed (look_events (o.store_path store) folder) w.looks look)) (adds_more o a b c before p.0 w.made p.1);
       }
 
   pub one_seen : (stamps : List (List ℕ)) (stamp : List ℕ) (a b c : T) (seen : Seen) (arrivals arrivals' : Arrivals) → HasSeen stamps a b arrivals → AddsSome o b c (SeesGame o folder store stamp (Ok seen))
@@ -71,7 +71,7 @@ module _ {T P F K S L : Type 0} (o : Outside T P F K S L) (folder : List ℕ) (s
   one_seen stamps stamp a b c seen arrivals arrivals' h p adds =
       let kept = p.2.0 in
       let look = look_of stamp kept in
-      let added = adds kept p.2.1 in
+      let added = adds kept p.2.1.0 in
       record {
         seen = one_more stamps stamp a b c seen h.seen p;
         arrived = record {
@@ -85,14 +85,14 @@ module _ {T P F K S L : Type 0} (o : Outside T P F K S L) (folder : List ℕ) (s
   one_unseen stamps before after stamp a b c refusal parted w p = (
     all_look_events (o.store_path store) folder w.looks ++ p.0,
     adds_more o a b c (all_look_events (o.store_path store) folder w.looks) p.0 w.made p.1,
-    OneFails w.looks stamp (refusal_words refusal) after p.0 w.all (parted ∙ ap (λ (l : List (List ℕ)). l ++ stamp ∷ after) (sym w.are)) p.2 refl refl,
+    OneFails w.looks (refusal_words refusal) w.all (record { stamp = stamp; after = after; last = p.0; are = parted ∙ ap (λ (l : List (List ℕ)). l ++ stamp ∷ after) (sym w.are); fails = p.2; all = refl }) refl,
   )
 
   pub no_room_for : (stamps before after : List (List ℕ)) (stamp : List ℕ) (a b c : T) (seen : Seen) (refusal : Refusal) → refusal_words refusal ≡ refused_memory → stamps ≡ (before ++ stamp ∷ []) ++ after → WereSeen before a b → AddsSome o b c (SeesGame o folder store stamp (Ok seen))
       → AddsSome o a c (LooksAtThese o folder store stamps (Err refusal))
   no_room_for stamps before after stamp a b c seen refusal words parted w p =
       let more = one_more before stamp a b c seen w p in
-      (all_look_events (o.store_path store) folder more.looks, more.made, NoRoomFor more.looks after more.all (parted ∙ ap (λ (l : List (List ℕ)). l ++ after) (sym more.are)) (ap Err words) refl)
+      (all_look_events (o.store_path store) folder more.looks, more.made, NoRoomFor more.looks more.all (after, parted ∙ ap (λ (l : List (List ℕ)). l ++ after) (sym more.are)) (ap Err words) refl)
 
   pub all_seen : (stamps before : List (List ℕ)) (a b : T) (arrivals : Arrivals) → before ≡ stamps → HasSeen before a b arrivals → AddsSome o a b (LooksAtThese o folder store stamps (Ok arrivals))
   all_seen stamps before a b arrivals same h =
@@ -112,36 +112,45 @@ module _ {T P F K S L : Type 0} (o : Outside T P F K S L) (folder : List ℕ) (o
   not_listed new a b refusal p = (p.0, p.1, why p.0 p.2)
     where
       why : (events : List Event) → CannotListKept o.disk folder (refusal_words refusal) events → ImportsRecords o folder old (Err (refusal_words refusal)) events
-      why events (NoRoomForThem names lists words is) = NoRoomForStamps names lists (ap Err words) is
-      why events (NoNames fault cause words is) = FolderIsNot fault cause (ap Err words) is
+      why events (NoRoomForThem names has words) = NoRoomForStamps names has (ap Err words)
+      why events (NoNames fault lacks words) = FolderIsNot fault lacks (ap Err words)
 
   -- with the listing before
   after_names : (a b c : T) (names : List (List ℕ)) (first rest : List Event) → first ≡ FolderListed folder (Ok names) ∷ [] → Adds o a b first → Adds o b c rest → Adds o a c (FolderListed folder (Ok names) ∷ rest)
   after_names a b c names first rest is p q = subst (λ (e : List Event). Adds o a c (e ++ rest)) is (adds_more o a b c first rest p q)
 
+  -- its games were looked at
+  looked : (stamps : Vec (List ℕ) Global) (seen : Result (List Look) (List ℕ)) (x y : List Event) (listed : ListsKept o.disk folder (Ok stamps) x) → LooksAtAll o folder old stamps.items seen y → ListsAndLooks o folder old seen (FolderListed folder (Ok listed.0) ∷ y)
+  looked stamps seen x y listed looks = record { names = listed.0; stamps = stamps.items; looking = y; lists = listed.1; are = listed.2; looks = looks; all = refl }
+
   pub not_seen : (new : S) (a b c : T) (stamps : Vec (List ℕ) Global) (refusal : Refusal) → AddsSome o a b (ListsKept o.disk folder (Ok stamps)) → AddsSome o b c (LooksAtThese o folder old stamps.items (Err refusal)) → AddsSome o a c (ImportsRecords o folder old (imported_or new (Err refusal)))
   not_seen new a b c stamps refusal p q =
       let names = p.2.0 in
-      (FolderListed folder (Ok names) ∷ q.0, after_names a b c names p.0 q.0 p.2.3 p.1 q.1, OneUnseen names stamps.items (refusal_words refusal) q.0 p.2.1 p.2.2 q.2 refl refl)
+      (FolderListed folder (Ok names) ∷ q.0, after_names a b c names p.0 q.0 p.2.3 p.1 q.1, OneUnseen (refusal_words refusal) (looked stamps (Err (refusal_words refusal)) p.0 q.0 p.2 q.2) refl)
+
+  -- and this came of putting what comes
+  put_so : (a b c d : T) (stamps : Vec (List ℕ) Global) (arrivals : Arrivals) (put : Result S (List ℕ)) → AddsSome o a b (ListsKept o.disk folder (Ok stamps)) → (q : AddsSome o b c (LooksAtThese o folder old stamps.items (Ok arrivals)))
+      → AddsSome o c d (PutsComing o old arrivals.entries.items put) → AddsSome o a d (LooksAndPuts o folder old q.2.0 put)
+  put_so a b c d stamps arrivals put p q s =
+      let names = p.2.0 in
+      let seen = q.2.0 in
+      let putting = subst (λ (es : List Entry). PutsComing o old es put s.0) q.2.1.entries s.2 in (
+        FolderListed folder (Ok names) ∷ q.0 ++ s.0,
+        after_names a b d names p.0 (q.0 ++ s.0) p.2.3 p.1 (adds_more o b c d q.0 s.0 q.1 s.1),
+        record { before = FolderListed folder (Ok names) ∷ q.0; putting = s.0; looks = looked stamps (Ok seen) p.0 q.0 p.2 q.2.2; puts = putting; all = refl },
+      )
 
   pub not_put : (new : S) (a b c d : T) (stamps : Vec (List ℕ) Global) (arrivals : Arrivals) (refusal : Refusal) → AddsSome o a b (ListsKept o.disk folder (Ok stamps)) → AddsSome o b c (LooksAtThese o folder old stamps.items (Ok arrivals))
       → AddsSome o c d (PutsComing o old arrivals.entries.items (Err (refusal_words refusal))) → AddsSome o a d (ImportsRecords o folder old (imported_or new (Err refusal)))
   not_put new a b c d stamps arrivals refusal p q s =
-      let names = p.2.0 in
-      let looks = q.2.0 in
-      let putting = subst (λ (es : List Entry). PutsComing o old es (Err (refusal_words refusal)) s.0) q.2.1.entries s.2 in
-      (FolderListed folder (Ok names) ∷ q.0 ++ s.0, after_names a b d names p.0 (q.0 ++ s.0) p.2.3 p.1 (adds_more o b c d q.0 s.0 q.1 s.1), NotPut names stamps.items looks (refusal_words refusal) q.0 s.0 p.2.1 p.2.2 q.2.2 putting refl refl)
+      let both = put_so a b c d stamps arrivals (Err (refusal_words refusal)) p q s in
+      (both.0, both.1, NotPut q.2.0 (refusal_words refusal) both.2 refl)
 
   pub all_imported : (new : S) (a b c d : T) (stamps : Vec (List ℕ) Global) (arrivals : Arrivals) → AddsSome o a b (ListsKept o.disk folder (Ok stamps)) → AddsSome o b c (LooksAtThese o folder old stamps.items (Ok arrivals))
       → AddsSome o c d (PutsComing o old arrivals.entries.items (Ok new)) → AddsSome o a d (ImportsRecords o folder old (imported_or new (Ok arrivals.left)))
   all_imported new a b c d stamps arrivals p q s =
-      let names = p.2.0 in
-      let looks = q.2.0 in
-      let putting = subst (λ (es : List Entry). PutsComing o old es (Ok new) s.0) q.2.1.entries s.2 in (
-        FolderListed folder (Ok names) ∷ q.0 ++ s.0,
-        after_names a b d names p.0 (q.0 ++ s.0) p.2.3 p.1 (adds_more o b c d q.0 s.0 q.1 s.1),
-        AllImported names stamps.items looks new q.0 s.0 p.2.1 p.2.2 q.2.2 putting (ap (λ (left : List (List ℕ)). Ok (record { store = new; left = left })) q.2.1.left) refl,
-      )
+      let both = put_so a b c d stamps arrivals (Ok new) p q s in
+      (both.0, both.1, AllImported q.2.0 new both.2 (ap (λ (left : List (List ℕ)). Ok (record { store = new; left = left })) q.2.1.left))
 
 -- the stamps that names tell, in rising order
 pub listed_so : {E : Type 0} (names old keys : List (List ℕ)) → old ≡ [] → AddsStamps names kept_ending old keys → (r : Result (Vec (List ℕ) Global) E) → IfOk r (λ all. all.items ≡ keys) → OnOk r (IsStrictlySortedBy (slice_cmp nat_cmp) keys) → IfOk r (λ stamps. AreListed names stamps.items)

@@ -3,6 +3,8 @@ pub mod BindLaws
 pub mod RunLaws
 pub mod ListLaws
 pub mod ListenLaws
+pub mod QuietLaws
+pub mod OutlivingLaws
 pub mod HostLaws
 pub mod LookLaws
 pub mod ImportLaws

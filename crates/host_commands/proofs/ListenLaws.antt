@@ -1,5 +1,5 @@
 -- An arbiter of one game, one step after another.
-use Rattle.std.proofs.Common.{◌≡◌, ◌++◌, ◌∷◌, [], ℕ, List, refl, subst}
+use Rattle.std.proofs.Common.{◌≡◌, ◌∷◌, [], ℕ, List, refl, subst}
 use Rattle.std.specs.Prelude.{Result, Ok, Err}
 use Rattle.answer_parts.proofs.PrintLaws.{then_does}
 use Rattle.answer_parts.specs.Printing.{Performs, Prints}
@@ -18,8 +18,7 @@ use Rattle.system_io.specs.declared.recipient.Recipient.{Recipient}
 use Rattle.task_files.specs.Given.{Given}
 use Rattle.timeline.specs.Outsides.{AddsSome, Outside}
 use Rattle.host_commands.proofs.StepLaws.{goes_on, goes_on_so, is_refused, is_refused_so}
-use Rattle.host_commands.specs.Inside.Parts.{ListensFrom}
-use Rattle.host_commands.specs.Listens.{AsksAndAnswers, AsksIf, BindsAndRuns, GameIsNotOpen, GameIsOpen, OneServed, OpensAndAnswers, OpensGame, RunsGame, served_of, unopened_refusal, usual_cache}
+use Rattle.host_commands.specs.Listens.{AsksAndAnswers, AsksIf, BindsAndRuns, GameIsNotOpen, GameIsOpen, ListensFrom, OneServed, OpensAndAnswers, OpensGame, RunsGame, served_of, unopened_refusal, usual_cache}
 use Rattle.host_commands.specs.ServerRuns.{AnswersAll}
 use Rattle.host_commands.specs.Steps.{ThenOrRefused}
 use Rattle.host_commands.specs.Tables.{GathersTables, MakesManifest}

@@ -1,18 +1,17 @@
 -- A game whose record is listed as a file is looked at.
-use Rattle.std.proofs.Common.{◌≡◌, ◌∙◌, ◌∷◌, ◌++◌, ◌⊎◌, [], ℕ, Bool, true, false, List, Option, Some, None, ap, inl, inr, refl, subst, sym}
+use Rattle.std.proofs.Common.{◌≡◌, ◌∷◌, ◌++◌, [], ℕ, true, false, List, Option, Some, None, ap, inl, inr, refl, subst, sym}
 use Rattle.std.specs.Borrow.{Bor}
 use Rattle.std.specs.Prelude.{MatchOption, Result, Ok, Err, is_some, option_map}
 use Rattle.answer_parts.specs.Lines.{refusal_words}
 use Rattle.answer_parts.specs.declared.answers.refusals.Refusal.{Refusal}
 use Rattle.arbiter_server.specs.GameFolders.{kept_path}
 use Rattle.game_status.specs.Imports.{IsEntryOf, IsNoRecordOf}
-use Rattle.host_commands.specs.Imports.{FailsToLook, FileUnread, InFile, InNeither, InStore, IsLook, Kept, NoRoomForFile, NoRoomToRead}
-use Rattle.host_commands.specs.Inside.Importing.{CannotReadRecord, HasRecord, IsUnread, NoRoomToDecode, ReadsInFolder, ReadsRecord, SeesGame}
-use Rattle.host_commands.specs.declared.arriving.Seen.{Seen}
+use Rattle.host_commands.specs.Imports.{FailsToLook, FileUnread, InFile, InNeither, InStore, NoRoomForFile, NoRoomToRead}
+use Rattle.host_commands.specs.Inside.Importing.{HasRecord, IsUnread, NoRoomToDecode, ReadsInFolder, ReadsRecord, SeesGame}
 use Rattle.host_commands.specs.declared.arriving.Seen.TheVariants as seen
 use Rattle.system_io.specs.Records.{StoredRecord}
 use Rattle.system_io.specs.declared.record_store.Entry.{Entry}
-use Rattle.timeline.proofs.EventLaws.{adds_more, adds_so}
+use Rattle.timeline.proofs.EventLaws.{adds_more}
 use Rattle.timeline.specs.Events.{Event, FileRead, RecordSought, bytes_found}
 use Rattle.timeline.specs.Outsides.{Adds, AddsSome, Outside}
 
@@ -41,7 +40,7 @@ module _ {T P F K S L : Type 0} (o : Outside T P F K S L) where
     -- the store has a record
     pub in_store : (a b : T) (r : Option (Bor (List ℕ))) → is_some r ≡ true → bytes_found r ≡ stored → Adds o a b (Sought (bytes_found r) ∷ []) → AddsSome o a b (SeesGame o folder store stamp (Ok seen.InStore))
     in_store a b None some is p = absurd (let f : false ≡ true = some in cc)
-    in_store a b (Some x) some is p = (Sought (Some x.now) ∷ [], p, (InStore x.now, (x.now, refl), record { stored = is; holds = tt }, refl))
+    in_store a b (Some x) some is p = (Sought (Some x.now) ∷ [], p, (InStore x.now, ((x.now, refl), record { stored = is; holds = tt }, refl)))
 
     -- it has none
     pub not_there : (a b : T) (r : Option (Bor (List ℕ))) → is_some r ≡ false → bytes_found r ≡ stored → Adds o a b (Sought (bytes_found r) ∷ []) → (None ≡ stored) × Adds o a b (Sought None ∷ [])
@@ -50,12 +49,12 @@ module _ {T P F K S L : Type 0} (o : Outside T P F K S L) where
 
     pub in_file : (a b c : T) (e : Entry) → None ≡ stored → Adds o a b (Sought None ∷ []) → AddsSome o b c (ReadsInFolder o folder stamp (Ok (Some e))) → AddsSome o a c (SeesGame o folder store stamp (Ok (seen.InFile e)))
     in_file a b c e none p q =
-        (Sought None ∷ [] ++ q.0, adds_more o a b c (Sought None ∷ []) q.0 p q.1, (InFile e, refl, record { stored = none; holds = (q.2.0, q.2.1) }, ap (λ (l : List Event). Sought None ∷ l) q.2.2))
+        (Sought None ∷ [] ++ q.0, adds_more o a b c (Sought None ∷ []) q.0 p q.1, (InFile e, (refl, record { stored = none; holds = (q.2.0, q.2.1) }, ap (λ (l : List Event). Sought None ∷ l) q.2.2)))
 
     pub in_neither : (a b c : T) → None ≡ stored → Adds o a b (Sought None ∷ []) → AddsSome o b c (ReadsInFolder o folder stamp (Ok None)) → AddsSome o a c (SeesGame o folder store stamp (Ok seen.InNeither))
     in_neither a b c none p q =
         let bytes = q.2.0 in
-        (Sought None ∷ [] ++ q.0, adds_more o a b c (Sought None ∷ []) q.0 p q.1, (InNeither bytes, (bytes, refl), record { stored = none; holds = (q.2.1, q.2.2) }, ap (λ (l : List Event). Sought None ∷ l) q.2.3))
+        (Sought None ∷ [] ++ q.0, adds_more o a b c (Sought None ∷ []) q.0 p q.1, (InNeither bytes, ((bytes, refl), record { stored = none; holds = (q.2.1, q.2.2) }, ap (λ (l : List Event). Sought None ∷ l) q.2.3)))
 
     pub unseen : (a b c : T) (refusal : Refusal) → Adds o a b (Sought None ∷ []) → AddsSome o b c (ReadsInFolder o folder stamp (Err refusal)) → AddsSome o a c (SeesGame o folder store stamp (Err refusal))
     unseen a b c refusal p q = (Sought None ∷ [] ++ q.0, adds_more o a b c (Sought None ∷ []) q.0 p q.1, why q.0 q.2)

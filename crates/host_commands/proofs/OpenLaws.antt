@@ -36,7 +36,7 @@ module _ {T P F K S L : Type 0} (o : Outside T P F K S L) (folder : List ℕ) wh
 
   module _ (store : S) where
     pub kept_so : (a b c : T) (now : Imported S) (games : StoredGames S) → AddsSome o a b (ImportsRecords o folder store (Ok now)) → AddsSome o b c (NotesAllLeft folder now.left) → games ≡ stored_games folder now.store now.left → AddsSome o a c (KeepsInStore o folder store (Ok games))
-    kept_so a b c now games p q is = (p.0 ++ q.0, adds_more o a b c p.0 q.0 p.1 q.1, IsKept now p.0 q.0 p.2 q.2 (ap Ok is) refl)
+    kept_so a b c now games p q is = (p.0 ++ q.0, adds_more o a b c p.0 q.0 p.1 q.1, IsKept now (record { importing = p.0; noting = q.0; imports = p.2; notes = q.2; all = refl }) (ap Ok is))
 
     pub not_kept : (a b : T) (words : List ℕ) → AddsSome o a b (ImportsRecords o folder store (Err words)) → AddsSome o a b (KeepsInStore o folder store (Err words))
     not_kept a b words p = (p.0, p.1, NoImport words p.2 refl)

@@ -1,5 +1,5 @@
 -- One step after another.
-use Rattle.std.proofs.Common.{◌≡◌, ◌∷◌, ◌++◌, [], ℕ, List, Option, Some, None, ap, refl, subst}
+use Rattle.std.proofs.Common.{◌≡◌, ◌∷◌, ◌++◌, [], ℕ, List, Some, None, ap, refl, subst}
 use Rattle.std.specs.Prelude.{Result, Ok, Err, IfOk, String, string_bytes}
 use Rattle.std.specs.Global.{Global}
 use Rattle.answer_parts.proofs.PrintLaws.{does_so, then_does, then_prints}

@@ -1,5 +1,5 @@
 -- `host`: arbiters of the games of a folder, at one port (this project's own).
-use Rattle.std.specs.Prelude.{◌≡◌, ◌++◌, ℕ, true, List, [], ◌∷◌, Option, Some, None, Result, Ok, Err, codes, length}
+use Rattle.std.specs.Prelude.{◌≡◌, ◌++◌, ℕ, true, List, [], ◌∷◌, Option, None, Result, Ok, Err, codes, length}
 use Rattle.std.specs.Fmt.{decimal}
 use Rattle.std.specs.NonZero.{non_zero_usize_get}
 use Rattle.arbiter_server.specs.Games.{CommonView}
@@ -29,7 +29,7 @@ use Rattle.host_commands.specs.Locks.{LocksFile, games_lock}
 use Rattle.host_commands.specs.Notes.{MayNote}
 use Rattle.host_commands.specs.Ready.{TellsReady}
 use Rattle.host_commands.specs.ServerRuns.{AnswersAll, IsServer, LosesLine}
-use Rattle.host_commands.specs.Steps.{Doing, ThenOrRefused}
+use Rattle.host_commands.specs.Steps.{Doing, Step, ThenOrRefused}
 use Rattle.host_commands.specs.Tables.{GathersTables, MakesManifest, ReadsNamed}
 
 -- how many datagrams are answered together: with a store those that have come, since what their games keep is committed at once
@@ -39,7 +39,13 @@ together_of form.Files = 1
 
 -- what the games have in common
 abbrev pub common_for : HostGames → Holding → List ℕ → CommonView
-common_for h set manifest = record { manifest = manifest; number = who_number h.me; set = set; at_once = non_zero_usize_get h.at_once; together = together_of h.store }
+common_for h set manifest = record {
+  manifest = manifest;
+  number = who_number h.me;
+  set = set;
+  at_once = non_zero_usize_get h.at_once;
+  together = together_of h.store;
+}
 
 abbrev pub log_lost : List ℕ
 log_lost = codes "the log can't be written: the games go on without it"
@@ -54,13 +60,28 @@ pub record GamesServed (G : Type 0) : Type 0 where
   pub common : CommonView
   pub games : G
 
+abbrev pub served_with : {G : Type 0} → CommonView → G → GamesServed G
+served_with common games = record { common = common; games = games }
+
 module _ {T P F K S L G : Type 0} (o : Outside T P F K S L) (facts : GamesFacts G) (h : HostGames) where
-  -- Datagrams are answered, with the lines of a log. Where the words say so, and a line can't be written, that is noted, and so many more
-  -- are answered without lines.
-  pub data AnswersLogged (most : ℕ) (to : List Recipient) (server : Server G F) (events : List Event) (status : Option ℕ) : Type 0 where
-    Logged : AnswersAll o facts most h.datagrams to (OfGames h.log) server events status → AnswersLogged most to server events status
-    Unlogged : h.outlives_log ≡ true → (mid : Server G F) (first rest : List Event) → LosesLine o facts most h.datagrams to (OfGames h.log) server mid first → AnswersAll o facts most h.datagrams to (OfGames Nothing) mid rest status
-        → events ≡ first ++ Noted log_lost ∷ rest → AnswersLogged most to server events status
+  module _ (most : ℕ) (to : List Recipient) where
+    -- datagrams are answered, with the lines of a log of this form
+    abbrev pub AnswersWith : LogForm → Server G F → Doing
+    AnswersWith form server = AnswersAll o facts most h.datagrams to (OfGames form) server
+
+    -- a line can't be written, which is noted, and so many more datagrams are answered without lines
+    pub record OutlivesLog (server : Server G F) (events : List Event) (status : Option ℕ) : Type 0 where
+      pub mid : Server G F
+      pub first : List Event
+      pub rest : List Event
+      pub loses : LosesLine o facts most h.datagrams to (OfGames h.log) server mid first
+      pub answers : AnswersWith Nothing mid rest status
+      pub all : events ≡ first ++ Noted log_lost ∷ rest
+
+    -- with the lines of the log that the words tell; where they say so, its loss is outlived
+    pub data AnswersLogged (server : Server G F) (events : List Event) (status : Option ℕ) : Type 0 where
+      Logged : AnswersWith h.log server events status → AnswersLogged server events status
+      Unlogged : h.outlives_log ≡ true → OutlivesLog server events status → AnswersLogged server events status
 
   abbrev pub RunsGames : GamesServed G → P → Doing
   RunsGames s port = ThenOrRefused (IsServer s.common s.games) (AnswersLogged s.common.together (o.port port).to)
@@ -79,31 +100,43 @@ module _ {T P F K S L G : Type 0} (o : Outside T P F K S L) (facts : GamesFacts 
 
 -- ---- how records are kept
 
--- the games of a folder with this store, of which some are left: no record of theirs is given; nothing is noted yet
+-- the games of a folder with this store, of which some are left: no record of theirs is given; nothing waits to be committed yet
 abbrev pub stored_games : {S : Type 0} → List ℕ → S → List (List ℕ) → StoredGames S
 stored_games folder store left = record { folder = folder; store = store; noted = []; left = left; loss = None }
 
--- The records of files go over into a store that hasn't them, and it is noted which files hold none; what games keep is put there from now
--- on. Or why they don't go over.
-pub data KeepsInStore {T P F K S L : Type 0} (o : Outside T P F K S L) (folder : List ℕ) (store : S) (result : Result (StoredGames S) (List ℕ)) (events : List Event) : Type 0 where
-  NoImport : (words : List ℕ) → ImportsRecords o folder store (Err words) events → result ≡ Err words → KeepsInStore o folder store result events
-  IsKept : (now : Imported S) (importing noting : List Event) → ImportsRecords o folder store (Ok now) importing → NotesAllLeft folder now.left noting → result ≡ Ok (stored_games folder now.store now.left) → events ≡ importing ++ noting → KeepsInStore o folder store result events
+module _ {T P F K S L : Type 0} (o : Outside T P F K S L) (folder : List ℕ) where
+  module _ (store : S) where
+    -- the records of files go over into a store that hasn't them, and it is noted which files hold none
+    pub record ImportsAndNotes (now : Imported S) (events : List Event) : Type 0 where
+      pub importing : List Event
+      pub noting : List Event
+      pub imports : ImportsRecords o folder store (Ok now) importing
+      pub notes : NotesAllLeft folder now.left noting
+      pub all : events ≡ importing ++ noting
 
--- the store of the folder is opened before
-pub data OpensGames {T P F K S L : Type 0} (o : Outside T P F K S L) (folder : List ℕ) (result : Result (StoredGames S) (List ℕ)) (events : List Event) : Type 0 where
-  NoStore : (words : List ℕ) → OpensStore o (store_path folder) (Err words) events → result ≡ Err words → OpensGames o folder result events
-  OverStore : (store : S) (opening rest : List Event) → OpensStore o (store_path folder) (Ok store) opening → KeepsInStore o folder store result rest → events ≡ opening ++ rest → OpensGames o folder result events
+    -- what games keep is put there from then on; or why records don't go over
+    pub data KeepsInStore (result : Result (StoredGames S) (List ℕ)) (events : List Event) : Type 0 where
+      NoImport : (words : List ℕ) → ImportsRecords o folder store (Err words) events → result ≡ Err words → KeepsInStore result events
+      IsKept : (now : Imported S) → ImportsAndNotes now events → result ≡ Ok (stored_games folder now.store now.left) → KeepsInStore result events
+
+  -- the store of the folder is opened before
+  abbrev pub OpensIt : Step S
+  OpensIt = OpensStore o (store_path folder)
+
+  pub data OpensGames (result : Result (StoredGames S) (List ℕ)) (events : List Event) : Type 0 where
+    NoStore : (words : List ℕ) → OpensIt (Err words) events → result ≡ Err words → OpensGames result events
+    OverStore : (its : S) (first rest : List Event) → OpensIt (Ok its) first → KeepsInStore its result rest → events ≡ first ++ rest → OpensGames result events
 
 module _ {T P F K S L : Type 0} (o : Outside T P F K S L) (h : HostGames) where
   -- the games of the folder, with a file for each record
   pub record RunsFiles (common : CommonView) (read : ℕ) (events : List Event) (status : Option ℕ) : Type 0 where
     pub games : FolderGames
     pub folder : games.folder.now ≡ h.games.now
-    pub runs : BindsAndRuns o folder_games_facts h read (record { common = common; games = games }) events status
+    pub runs : BindsAndRuns o folder_games_facts h read (served_with common games) events status
 
   -- or with a store
   abbrev pub RunsStore : CommonView → ℕ → Doing
-  RunsStore common read = ThenOrRefused (OpensGames o h.games.now) (λ games. BindsAndRuns o (store_games_facts o) h read (record { common = common; games = games }))
+  RunsStore common read = ThenOrRefused (OpensGames o h.games.now) (λ games. BindsAndRuns o (store_games_facts o) h read (served_with common games))
 
   -- as the words say
   abbrev pub RunsKept : StoreForm → CommonView → ℕ → Doing
@@ -116,10 +149,17 @@ module _ {T P F K S L : Type 0} (o : Outside T P F K S L) (h : HostGames) where
 
   -- ---- all of it
 
-  -- by what was read: the tables are refused first, and then the folder of the games
+  -- by the manifest of the tables
+  abbrev pub MakesAndRuns : Given → Holding → Doing
+  MakesAndRuns given set = ThenOrRefused (MakesManifest given) (λ manifest. LocksAndRuns (common_for h set manifest) (length given.files))
+
+  -- after the folder of the games was listed
+  abbrev pub ListsAndRuns : Given → Holding → Doing
+  ListsAndRuns given set = ThenOrRefused (ListsGames o.disk h.games.now h.store) (λ listed. MakesAndRuns given set)
+
+  -- by what was read: the tables are refused first
   abbrev pub HostsBy : Given → Doing
-  HostsBy given =
-      ThenOrRefused (GathersTables given h.cache) (λ set. ThenOrRefused (ListsGames o.disk h.games.now h.store) (λ listed. ThenOrRefused (MakesManifest given) (λ manifest. LocksAndRuns (common_for h set manifest) (length given.files))))
+  HostsBy given = ThenOrRefused (GathersTables given h.cache) (ListsAndRuns given)
 
   -- what the words name is read before all else
   abbrev pub Hosts : Doing

@@ -9,4 +9,5 @@ pub mod Listens
 pub mod Listings
 pub mod Imports
 pub mod Hosts
+pub mod Outliving
 pub mod Inside

@@ -1,5 +1,5 @@
 -- `listen`: an arbiter of one game, at a port (this project's own).
-use Rattle.std.specs.Prelude.{◌≡◌, ◌++◌, ℕ, Bool, true, false, List, [], ◌∷◌, Option, Some, None, Result, Ok, Err}
+use Rattle.std.specs.Prelude.{◌≡◌, ◌++◌, ℕ, Bool, true, false, List, [], Option, Result, Ok, Err}
 use Rattle.answer_parts.specs.Lines.{refused_fen}
 use Rattle.arbiter_server.specs.GameFiles.{game_as_told}
 use Rattle.arbiter_server.specs.Games.{CommonView}
@@ -44,13 +44,20 @@ pub record OneServed (G : Type 0) : Type 0 where
 abbrev pub common_for : Listen → Holding → List ℕ → CommonView
 common_for l set manifest = record { manifest = manifest; number = who_number l.me; set = set; at_once = 1; together = 1 }
 
--- the game that the words tell, whose record is in the file that they name
+-- the stamp of the game that the words tell
+abbrev pub stamp_told : Listen → Parts → List ℕ → List ℕ
+stamp_told l start manifest = stamp_of l.name (fen_of start) manifest l.delay
+
+-- this game, whose record is in the file that they name
 abbrev pub game_of : Listen → Parts → List ℕ → OneGameView
-game_of l start manifest = record { at = record { stamp = stamp_of l.name (fen_of start) manifest l.delay; game = game_as_told l.name start l.delay; path = l.kept.now }; is_lost = false }
+game_of l start manifest = record {
+  at = record { stamp = stamp_told l start manifest; game = game_as_told l.name start l.delay; path = l.kept.now };
+  is_lost = false;
+}
 
 -- it is what is served, under its stamp by the manifest of its tables
 abbrev pub served_of : Listen → Parts → Holding → List ℕ → OneServed OneGameView
-served_of l start set manifest = record { common = common_for l set manifest; games = game_of l start manifest; stamp = stamp_of l.name (fen_of start) manifest l.delay }
+served_of l start set manifest = record { common = common_for l set manifest; games = game_of l start manifest; stamp = stamp_told l start manifest }
 
 -- the words of the start spell this position; or why they spell none; nothing happens for this
 pub data IsStart (text : List ℕ) (result : Result Parts (List ℕ)) (events : List Event) : Type 0 where
@@ -75,10 +82,15 @@ AsksIf true to server stamp events = IsRequestSpelled (request_at server stamp) 
 
 -- of a game with this stamp, where so many datagrams are answered together at most
 module _ {T P F K S L G : Type 0} (o : Outside T P F K S L) (facts : GamesFacts G) (l : Listen) (most : ℕ) (stamp : List ℕ) where
-  -- it is opened over its record by these events, and no other one is; or it isn't
-  pub data OpensGame (server : Server G F) (result : Result (Server G F) (List ℕ)) (events : List Event) : Type 0 where
-    GameIsOpen : (opened : Server G F) → OpensUnasked o facts server opened stamp (Ok tt) events → result ≡ Ok opened → OpensGame server result events
-    GameIsNotOpen : (why : OpenGameError) (left : Server G F) → OpensUnasked o facts server left stamp (Err why) events → result ≡ Err (unopened_refusal why) → OpensGame server result events
+  module _ (server : Server G F) where
+    -- it leaves this server, and tells this
+    abbrev pub OpensLeaving : Server G F → Result (Unit {0}) OpenGameError → List Event → Type 0
+    OpensLeaving left told events = OpensUnasked o facts server left stamp told events
+
+    -- it is opened over its record by these events, and no other one is; or it isn't
+    pub data OpensGame (result : Result (Server G F) (List ℕ)) (events : List Event) : Type 0 where
+      GameIsOpen : (opened : Server G F) → OpensLeaving opened (Ok tt) events → result ≡ Ok opened → OpensGame result events
+      GameIsNotOpen : (why : OpenGameError) (left : Server G F) → OpensLeaving left (Err why) events → result ≡ Err (unopened_refusal why) → OpensGame result events
 
   -- its request for moves goes out, where that is wanted, and then datagrams are answered
   pub record AsksAndAnswers (port : P) (server : Server G F) (events : List Event) (status : Option ℕ) : Type 0 where
@@ -119,9 +131,13 @@ module _ {T P F K S L : Type 0} (o : Outside T P F K S L) (l : Listen) where
   abbrev pub RunsGame : Parts → Holding → List ℕ → Doing
   RunsGame start set manifest = BindsAndRuns o one_game_facts l (served_of l start set manifest)
 
-  -- by what was read: the text of the start is refused first, and then the tables
+  -- by the tables that were read, and their manifest
+  abbrev pub ListensFrom : Given → Parts → Doing
+  ListensFrom given start = ThenOrRefused (GathersTables given usual_cache) (λ set. ThenOrRefused (MakesManifest given) (RunsGame start set))
+
+  -- by what was read: the text of the start is refused first
   abbrev pub ListensBy : Given → Doing
-  ListensBy given = ThenOrRefused (IsStart l.start.now) (λ start. ThenOrRefused (GathersTables given usual_cache) (λ set. ThenOrRefused (MakesManifest given) (RunsGame start set)))
+  ListensBy given = ThenOrRefused (IsStart l.start.now) (ListensFrom given)
 
   -- what the words name is read before all else
   abbrev pub Listens : Doing

@@ -1,5 +1,5 @@
 -- The folder of the games that `host` serves, as it is listed (this project's own).
-use Rattle.std.specs.Prelude.{◌≡◌, ◌⊎◌, ◌++◌, ℕ, List, [], ◌∷◌, Result, Ok, Err, codes}
+use Rattle.std.specs.Prelude.{◌≡◌, ◌++◌, ℕ, List, [], ◌∷◌, Result, Ok, Err, codes}
 use Rattle.std.specs.List.{Contains}
 use Rattle.arbiter_server.specs.ServedLines.{refused_store}
 use Rattle.command_line.specs.declared.words.numbers.StoreForm.{StoreForm}
@@ -10,7 +10,7 @@ use Rattle.system_io.specs.Disks.{AtFolder, DiskFacts}
 use Rattle.system_io.specs.declared.reading.ReadFault.{ReadFault}
 use Rattle.system_io.specs.declared.reading.ReadFault.TheVariants as read
 use Rattle.timeline.specs.Events.{Event, FolderListed}
-use Rattle.host_commands.specs.Notes.{MayNote}
+use Rattle.host_commands.specs.Notes.{ThenMayNote}
 
 abbrev pub half_store : List ℕ
 half_store = codes "games.db-wal without games.db, or games.db-journal: half of a store"
@@ -19,16 +19,37 @@ abbrev pub unwanted_store : List ℕ
 unwanted_store = codes "games.db, and --store is files"
 
 -- what of these names bars a folder from being served: it has half of a store; or it has one, and records are to be in files
-pub data Clashes (where_kept : StoreForm) (names : List (List ℕ)) (what : List ℕ) : Type 0 where
-  HalfStore : HasHalfStore names → what ≡ half_store → Clashes where_kept names what
-  UnwantedStore : (HasHalfStore names → ⊥) → where_kept ≡ form.Files → Contains names store_name → what ≡ unwanted_store → Clashes where_kept names what
+module _ (where_kept : StoreForm) (names : List (List ℕ)) where
+  pub data Clashes (what : List ℕ) : Type 0 where
+    HalfStore : HasHalfStore names → what ≡ half_store → Clashes what
+    UnwantedStore : (HasHalfStore names → ⊥) → where_kept ≡ form.Files → Contains names store_name → what ≡ unwanted_store → Clashes what
 
 abbrev pub clash_line : List ℕ → List ℕ → List ℕ
 clash_line folder what = folder ++ (codes " has " ++ what)
 
--- the folder is listed: nothing bars it; or something does, which is noted; or it can't be listed
-pub data ListsGames (disk : DiskFacts) (folder : List ℕ) (where_kept : StoreForm) (result : Result (Unit {0}) (List ℕ)) (events : List Event) : Type 0 where
-  IsListed : (names : List (List ℕ)) → disk.lists folder names → ((what : List ℕ) → Clashes where_kept names what → ⊥) → result ≡ Ok tt → events ≡ FolderListed folder (Ok names) ∷ [] → ListsGames disk folder where_kept result events
-  IsBarred : (names : List (List ℕ)) (what : List ℕ) (noting : List Event) → disk.lists folder names → Clashes where_kept names what → MayNote (clash_line folder what) noting → result ≡ Err refused_store
-      → events ≡ FolderListed folder (Ok names) ∷ noting → ListsGames disk folder where_kept result events
-  IsNotListed : (fault : ReadFault) → (fault ≡ read.Unreadable → disk.fails (AtFolder folder)) → result ≡ Err (cut_words fault) → events ≡ FolderListed folder (Err fault) ∷ [] → ListsGames disk folder where_kept result events
+-- the folder is listed, and has these names
+pub record HasNames (disk : DiskFacts) (folder : List ℕ) (names : List (List ℕ)) (events : List Event) : Type 0 where
+  pub lists : disk.lists folder names
+  pub is : events ≡ FolderListed folder (Ok names) ∷ []
+
+-- or it can't be listed
+pub record LacksNames (disk : DiskFacts) (folder : List ℕ) (fault : ReadFault) (events : List Event) : Type 0 where
+  pub cause : fault ≡ read.Unreadable → disk.fails (AtFolder folder)
+  pub is : events ≡ FolderListed folder (Err fault) ∷ []
+
+module _ (disk : DiskFacts) (folder : List ℕ) (where_kept : StoreForm) where
+  -- nothing bars it
+  abbrev pub NothingBars : List (List ℕ) → Type 0
+  NothingBars names = (what : List ℕ) → Clashes where_kept names what → ⊥
+
+  -- something does, and a line is noted that says so
+  pub record IsBarredBy (what : List ℕ) (events : List Event) : Type 0 where
+    pub names : List (List ℕ)
+    pub lists : disk.lists folder names
+    pub clash : Clashes where_kept names what
+    pub notes : ThenMayNote (FolderListed folder (Ok names)) (clash_line folder what) events
+
+  pub data ListsGames (result : Result (Unit {0}) (List ℕ)) (events : List Event) : Type 0 where
+    IsListed : (names : List (List ℕ)) → HasNames disk folder names events → NothingBars names → result ≡ Ok tt → ListsGames result events
+    IsBarred : (what : List ℕ) → IsBarredBy what events → result ≡ Err refused_store → ListsGames result events
+    IsNotListed : (fault : ReadFault) → LacksNames disk folder fault events → result ≡ Err (cut_words fault) → ListsGames result events

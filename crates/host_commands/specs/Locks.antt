@@ -6,7 +6,7 @@ use Rattle.line_teller.specs.ToldLines.{refused_memory}
 use Rattle.system_io.specs.declared.host.LockFault.TheVariants as lock
 use Rattle.timeline.specs.Events.{Event, Locked}
 use Rattle.timeline.specs.Outsides.{Outside}
-use Rattle.host_commands.specs.Notes.{MayNote}
+use Rattle.host_commands.specs.Notes.{ThenMayNote}
 
 -- the file by which a folder of games is locked, and that by which a kept file is
 abbrev pub games_lock : List ℕ → List ℕ
@@ -18,10 +18,13 @@ kept_lock path = path ++ codes ".lock"
 abbrev pub held_line : List ℕ → List ℕ
 held_line path = path ++ codes " is locked by another process"
 
--- the file at a path is locked; or another process holds its lock, which is noted; or it can't be locked; or memory was refused
-pub data LocksFile {T P F K S L : Type 0} (o : Outside T P F K S L) (path : List ℕ) (result : Result K (List ℕ)) (events : List Event) : Type 0 where
-  IsLocked : (held : K) → o.gives_lock path → o.lock_path held ≡ path → result ≡ Ok held → events ≡ Locked path (Ok tt) ∷ [] → LocksFile o path result events
-  InUse : o.bars_lock path lock.Held → (noting : List Event) → MayNote (held_line path) noting → result ≡ Err refused_in_use → events ≡ Locked path (Err lock.Held) ∷ noting → LocksFile o path result events
-  NoLock : o.bars_lock path lock.Failed → result ≡ Err refused_keeper → events ≡ Locked path (Err lock.Failed) ∷ [] → LocksFile o path result events
-  NoRoomToLock : o.bars_lock path lock.OutOfMemory → result ≡ Err refused_memory → events ≡ Locked path (Err lock.OutOfMemory) ∷ [] → LocksFile o path result events
-  NoRoomForPath : result ≡ Err refused_memory → events ≡ [] → LocksFile o path result events
+-- the file at a path is locked; or another process holds its lock, and a line is noted that says so; or it can't be locked; or memory was
+-- refused
+module _ {T P F K S L : Type 0} (o : Outside T P F K S L) (path : List ℕ) where
+  pub data LocksFile (result : Result K (List ℕ)) (events : List Event) : Type 0 where
+    IsLocked : (held : K) → o.gives_lock path → o.lock_path held ≡ path → result ≡ Ok held → events ≡ Locked path (Ok tt) ∷ [] → LocksFile result events
+    InUse : o.bars_lock path lock.Held → result ≡ Err refused_in_use → ThenMayNote (Locked path (Err lock.Held)) (held_line path) events → LocksFile result events
+    NoLock : o.bars_lock path lock.Failed → result ≡ Err refused_keeper → events ≡ Locked path (Err lock.Failed) ∷ [] → LocksFile result events
+    NoRoomToLock : o.bars_lock path lock.OutOfMemory
+        → result ≡ Err refused_memory → events ≡ Locked path (Err lock.OutOfMemory) ∷ [] → LocksFile result events
+    NoRoomForPath : result ≡ Err refused_memory → events ≡ [] → LocksFile result events

@@ -15,6 +15,12 @@ pub data MayNote (line : List ℕ) (events : List Event) : Type 0 where
   IsNoted : events ≡ Noted line ∷ [] → MayNote line events
   NotNoted : events ≡ [] → MayNote line events
 
+-- after an event this line is noted, or memory for it was refused
+pub record ThenMayNote (first : Event) (line : List ℕ) (events : List Event) : Type 0 where
+  pub noting : List Event
+  pub notes : MayNote line noting
+  pub all : events ≡ first ∷ noting
+
 -- what a call gave, or the words of its refusal
 abbrev pub in_words : {A : Type 0} → Result A Refusal → Result A (List ℕ)
 in_words (Ok a) = Ok a

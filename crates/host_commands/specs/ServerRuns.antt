@@ -4,7 +4,7 @@ use Rattle.std.specs.List.{AllByRecursion}
 use Rattle.arbiter_server.specs.Games.{CommonView}
 use Rattle.game_folder.specs.Holdings.{GamesFacts}
 use Rattle.game_server.specs.Printing.{LineForm}
-use Rattle.game_server.specs.Runs.{GoesOnAfter, InTurns, RunEnds, Turn, came, run_events, with_last}
+use Rattle.game_server.specs.Runs.{AreWithin, GoesOnAfter, InTurns, RunEnds, Turn, came, run_events, with_last}
 use Rattle.game_server.specs.Seats.{IsNewServer}
 use Rattle.game_server.specs.declared.server.Server.{Server}
 use Rattle.line_teller.specs.ToldLines.{refused_memory}
@@ -18,13 +18,15 @@ GoesTo n count last (Some status) = RunEnds n count last (Ok status)
 GoesTo n count last None = last ≡ None
 
 module _ {T P F K S L G : Type 0} (o : Outside T P F K S L) (facts : GamesFacts G) (most n : ℕ) (to : List Recipient) (form : LineForm) (old : Server G F) where
-  -- Up to n datagrams are answered in turns, whose lines go out: all turns with the status, or the first of them with none.
+  -- Up to n datagrams are answered in turns, whose lines go out: all turns with the status, or the first of them with none. In each there is
+  -- room for so many as may be answered together, and as are still to come.
   pub record AnswersAll (events : List Event) (status : Option ℕ) : Type 0 where
     pub turns : List Turn
     pub last : Option Turn
     pub new : Server G F
     pub going : AllByRecursion GoesOnAfter turns
-    pub in_turn : InTurns o facts most form [] old (with_last turns last) new
+    pub in_turn : InTurns o facts form [] old (with_last turns last) new
+    pub within : AreWithin most n (with_last turns last)
     pub ends : GoesTo n (came turns) last status
     pub all : events ≡ run_events to (with_last turns last)
 
@@ -33,7 +35,8 @@ module _ {T P F K S L G : Type 0} (o : Outside T P F K S L) (facts : GamesFacts 
     pub turns : List Turn
     pub last : Turn
     pub going : AllByRecursion GoesOnAfter turns
-    pub in_turn : InTurns o facts most form [] old (turns ++ last ∷ []) new
+    pub in_turn : InTurns o facts form [] old (turns ++ last ∷ []) new
+    pub within : AreWithin most n (turns ++ last ∷ [])
     pub few : came turns < n
     pub lost : last.is_out ≡ false
     pub all : events ≡ run_events to (turns ++ last ∷ [])

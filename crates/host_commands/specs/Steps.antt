@@ -12,10 +12,15 @@ Doing = List Event → Option ℕ → Type 0
 abbrev pub Step : Type 0 → Type 1
 Step A = Result A (List ℕ) → List Event → Type 0
 
+-- these words are written, and nothing else
+abbrev pub refused_by : List ℕ → List Event
+refused_by words = printed (words ∷ [])
+
 -- First a step, and then what follows from what it gave. Or the words by which it is refused are written, with status 1, and nothing else.
-pub data ThenOrRefused {A : Type 0} (First : Step A) (Rest : A → Doing) (events : List Event) (status : Option ℕ) : Type 0 where
-  GoesOn : (a : A) (first rest : List Event) → First (Ok a) first → Rest a rest status → events ≡ first ++ rest → ThenOrRefused First Rest events status
-  IsRefused : (words : List ℕ) (first : List Event) → First (Err words) first → events ≡ first ++ printed (words ∷ []) → status ≡ Some 1 → ThenOrRefused First Rest events status
+module _ {A : Type 0} (First : Step A) (Rest : A → Doing) where
+  pub data ThenOrRefused (events : List Event) (status : Option ℕ) : Type 0 where
+    GoesOn : (a : A) (first rest : List Event) → First (Ok a) first → Rest a rest status → events ≡ first ++ rest → ThenOrRefused events status
+    IsRefused : (words : List ℕ) (first : List Event) → First (Err words) first → events ≡ first ++ refused_by words → status ≡ Some 1 → ThenOrRefused events status
 
 -- a text was written, and all has gone out
 abbrev pub gone_out : List ℕ → List Event

@@ -22,12 +22,14 @@ abbrev pub ReadsNamed : {T P F K S L : Type 0} → Outside T P F K S L → Named
 ReadsNamed o n result events = (got : Result Given ReadFault) × ReadsGiven o n got events × (result ≡ or_cut got)
 
 -- the tables of what was read, in a set that keeps so many decoded blocks; or their refusal, or memory was refused; nothing happens for this
-pub data GathersTables (given : Given) (cache : ℕ) (result : Result Holding (List ℕ)) (events : List Event) : Type 0 where
-  TablesAre : (set : Holding) → gathered given ≡ Ok set.tables → set.cache ≡ cache → result ≡ Ok set → events ≡ [] → GathersTables given cache result events
-  TablesAreNot : (words : List ℕ) → gathered given ≡ Err words → result ≡ Err words → events ≡ [] → GathersTables given cache result events
-  NoRoomForTables : result ≡ Err refused_memory → events ≡ [] → GathersTables given cache result events
+module _ (given : Given) (cache : ℕ) where
+  pub data GathersTables (result : Result Holding (List ℕ)) (events : List Event) : Type 0 where
+    TablesAre : (set : Holding) → gathered given ≡ Ok set.tables → set.cache ≡ cache → result ≡ Ok set → events ≡ [] → GathersTables result events
+    TablesAreNot : (words : List ℕ) → gathered given ≡ Err words → result ≡ Err words → events ≡ [] → GathersTables result events
+    NoRoomForTables : result ≡ Err refused_memory → events ≡ [] → GathersTables result events
 
 -- their manifest; or memory for it was refused
-pub data MakesManifest (given : Given) (result : Result (List ℕ) (List ℕ)) (events : List Event) : Type 0 where
-  ManifestIs : (manifest : List ℕ) → SpellsManifest manifest (entries_of given.files) → result ≡ Ok manifest → events ≡ [] → MakesManifest given result events
-  NoRoomForManifest : result ≡ Err refused_memory → events ≡ [] → MakesManifest given result events
+module _ (given : Given) where
+  pub data MakesManifest (result : Result (List ℕ) (List ℕ)) (events : List Event) : Type 0 where
+    ManifestIs : (manifest : List ℕ) → SpellsManifest manifest (entries_of given.files) → result ≡ Ok manifest → events ≡ [] → MakesManifest result events
+    NoRoomForManifest : result ≡ Err refused_memory → events ≡ [] → MakesManifest result events

@@ -1,6 +1,6 @@
 //! The record in the file of a game, which may go over into a store.
 
-ghost use Rattle.std.specs.Prelude.{◌≡◌, ◌≢◌, None, IfErr, IfOk, MatchOption};
+ghost use Rattle.std.specs.Prelude.{◌≡◌, ◌≢◌, None, IfOk, MatchOption};
 ghost use Rattle.game_status.specs.Imports.{IsEntryOf, IsNoRecordOf};
 ghost use Rattle.host_commands.specs.Inside.Importing.{ReadsInFolder, ReadsRecord, SeesGame};
 ghost use Rattle.timeline.specs.Outsides.{AddsSome};

@@ -47,7 +47,7 @@ fn ask_for<S: System>(
 }
 
 /// Binds a port to an address that sends to the addresses of a word, separated by commas. The error is `Port` where the address can't be
-/// bound, which is noted, and `Memory` where memory is refused; for a single address none is taken here.
+/// bound, and then a line is noted that says so; it is `Memory` where memory is refused. For a single address none is taken here.
 pub fn bind<S: System>(
     alloc: Global,
     system: &S,

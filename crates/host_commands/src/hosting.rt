@@ -1,16 +1,16 @@
 //! `host`: arbiters of the games of a folder, at one port.
 
-ghost use Rattle.std.specs.Prelude.{◌≡◌, [], string_bytes, IfOk, OnErr};
+ghost use Rattle.std.specs.Prelude.{◌≡◌, [], string_bytes, IfOk, IsOk, OnErr};
 ghost use Rattle.std.specs.NonZero.{non_zero_usize_get};
-ghost use Rattle.answer_parts.specs.Printing.{OutputFails, Performs};
+ghost use Rattle.answer_parts.specs.Printing.{OutputFails};
 ghost use Rattle.arbiter_server.specs.Games.{common_with};
-ghost use Rattle.arbiter_server.specs.LineLogs.{IsLogOf};
 ghost use Rattle.command_line.specs.Commands.Host.{named};
 ghost use Rattle.game_server.specs.Printing.{KnowsLines, OfGames, form_in};
 ghost use Rattle.game_server.specs.Seats.{AreSeats};
-ghost use Rattle.host_commands.specs.Hosts.{AnswersLogged, BindsAndRuns, Hosts, common_for, HostsBy, LocksAndRuns, NotesAndRuns, RunsGames, RunsKept, RunsStore, tables_line, together_of};
-ghost use Rattle.host_commands.specs.Inside.HostParts.{GoesOnUnlogged, TellsAndRuns, games_served};
+ghost use Rattle.host_commands.specs.Hosts.{Hosts, HostsBy, common_for, tables_line, together_of};
+ghost use Rattle.host_commands.specs.Inside.HostParts.{AnswersIn, BindsIn, GoesOnIn, HostDoes, KeepsIn, LocksIn, NotesIn, RunsIn, StoresIn, TellsIn};
 ghost use Rattle.host_commands.specs.Notes.{MayNote};
+ghost use Rattle.host_commands.specs.Outliving.{PerformsOutliving};
 ghost use Rattle.judge_core.specs.Tables.{Holding};
 ghost use Rattle.task_files.specs.Sources.{named_by};
 ghost use Rattle.timeline.specs.Outsides.{AddsSome};
@@ -20,7 +20,6 @@ use crate::listing::list_games;
 use crate::locking::{IN_GAMES, lock};
 use crate::noting::note_line;
 use crate::ready::{print_out, ready_line};
-use crate::serving::serve_all;
 use crate::store_opening::open_games;
 use crate::tables::{make_manifest, tables_of};
 use answer_parts::{Refusal, print_refusal, print_unread};
@@ -63,7 +62,7 @@ fn most_together(form: StoreForm) -> NonZeroUsize
     }
 }
 
-/// Notes that the log is lost, and answers so many datagrams without it.
+/// Notes that the log is lost, and answers so many datagrams without it. No line is written, so that the output can't end this.
 fn go_on_unlogged<'a, S: System, G: Games<S> + Drop>(
     at: &mut PortServer<'a, G, S::File>,
     n: u64,
@@ -72,15 +71,16 @@ fn go_on_unlogged<'a, S: System, G: Games<S> + Drop>(
     timeline: &mut S::Timeline,
 ) -> Result<u8, WriteFault>
     requires seats { AreSeats (S.outside system.now) (G.facts system.now) at.old.server }
-    ensures made { AddsSome (S.outside system.now) timeline.old timeline.new (Performs (GoesOnUnlogged (S.outside system.now) (G.facts system.now) at.old.replies.most n ((S.outside system.now).port port.old).to at.old.server) result) }
-    ensures cause { OnErr result (OutputFails (S.outside system.now)) }
+    ensures made { GoesOnIn (S.outside system.now) (G.facts system.now) n at.old port.old timeline.old timeline.new result }
+    ensures done { IsOk result }
 {
     system.note(timeline, LOG_LOST);
     at.silence();
-    serve_all(at, n, port, system, timeline)
+    serve(at, system, timeline, port, n)
 }
 
-/// Serves games at a port, with the lines of a log. Where that can't be written, the games go on without it, if the words say so.
+/// Serves games at a port, with the lines of a log. Where that can't be written, the games go on without it, if the words say so: then no
+/// error comes.
 fn serve_logged<'a, S: System, G: Games<S> + Drop>(
     at: &mut PortServer<'a, G, S::File>,
     task: &HostGames<'_>,
@@ -91,7 +91,7 @@ fn serve_logged<'a, S: System, G: Games<S> + Drop>(
     requires seats { AreSeats (S.outside system.now) (G.facts system.now) at.old.server }
     requires lines { form_in at.old.lines ≡ OfGames task.now.log }
     requires none { KnowsLines at.old.lines [] }
-    ensures made { AddsSome (S.outside system.now) timeline.old timeline.new (Performs (AnswersLogged (S.outside system.now) (G.facts system.now) task.now at.old.replies.most ((S.outside system.now).port port.old).to at.old.server) result) }
+    ensures made { AnswersIn (S.outside system.now) (G.facts system.now) task.now at.old port.old timeline.old timeline.new result }
     ensures cause { OnErr result (OutputFails (S.outside system.now)) }
 {
     match serve(at, system, timeline, port, task.datagrams) {
@@ -114,7 +114,7 @@ fn serve_games<'a, S: System, G: Games<S> + Drop>(
     system: &S,
     timeline: &mut S::Timeline,
 ) -> Result<u8, WriteFault>
-    ensures made { AddsSome (S.outside system.now) timeline.old timeline.new (Performs (RunsGames (S.outside system.now) (G.facts system.now) task.now (games_served served.entry) port.old) result) }
+    ensures made { RunsIn (S.outside system.now) (G.facts system.now) task.now served.entry port.old timeline.old timeline.new result }
     ensures cause { OnErr result (OutputFails (S.outside system.now)) }
 {
     let GamesServed {
@@ -154,7 +154,7 @@ fn note_and_serve<'a, S: System, G: Games<S> + Drop>(
     system: &S,
     timeline: &mut S::Timeline,
 ) -> Result<u8, WriteFault>
-    ensures made { AddsSome (S.outside system.now) timeline.old timeline.new (Performs (NotesAndRuns (S.outside system.now) (G.facts system.now) plan.now.task.now plan.now.read (games_served served.entry) port.old) result) }
+    ensures made { NotesIn (S.outside system.now) (G.facts system.now) plan.now served.entry port.old timeline.old timeline.new result }
     ensures cause { OnErr result (OutputFails (S.outside system.now)) }
 {
     note_tables(alloc, system, timeline, plan.read);
@@ -170,7 +170,7 @@ fn tell_and_serve<'a, S: System, G: Games<S> + Drop>(
     system: &S,
     timeline: &mut S::Timeline,
 ) -> Result<u8, WriteFault>
-    ensures made { AddsSome (S.outside system.now) timeline.old timeline.new (Performs (TellsAndRuns (S.outside system.now) (G.facts system.now) plan.now.task.now plan.now.read (games_served served.entry) port.old) result) }
+    ensures made { TellsIn (S.outside system.now) (G.facts system.now) plan.now served.entry port.old timeline.old timeline.new result }
     ensures cause { OnErr result (OutputFails (S.outside system.now)) }
 {
     let line = match ready_line(alloc, system, port) {
@@ -191,7 +191,7 @@ fn bind_and_serve<'a, S: System, G: Games<S> + Drop>(
     system: &S,
     timeline: &mut S::Timeline,
 ) -> Result<u8, WriteFault>
-    ensures made { AddsSome (S.outside system.now) timeline.old timeline.new (Performs (BindsAndRuns (S.outside system.now) (G.facts system.now) plan.now.task.now plan.now.read (games_served served.entry)) result) }
+    ensures made { BindsIn (S.outside system.now) (G.facts system.now) plan.now served.entry timeline.old timeline.new result }
     ensures cause { OnErr result (OutputFails (S.outside system.now)) }
 {
     match bind(alloc, system, timeline, plan.task.bind, plan.task.to) {
@@ -215,7 +215,7 @@ fn store_and_serve<'a, S: System>(
     system: &S,
     timeline: &mut S::Timeline,
 ) -> Result<u8, WriteFault>
-    ensures made { AddsSome (S.outside system.now) timeline.old timeline.new (Performs (RunsStore (S.outside system.now) plan.now.task.now (common_with common.entry.config common.entry.tables) plan.now.read) result) }
+    ensures made { StoresIn (S.outside system.now) plan.now common.entry timeline.old timeline.new result }
     ensures cause { OnErr result (OutputFails (S.outside system.now)) }
 {
     match open_games(alloc, system, timeline, plan.task.games) {
@@ -240,7 +240,7 @@ fn keep_and_serve<'a, S: System>(
     system: &S,
     timeline: &mut S::Timeline,
 ) -> Result<u8, WriteFault>
-    ensures made { AddsSome (S.outside system.now) timeline.old timeline.new (Performs (RunsKept (S.outside system.now) plan.now.task.now plan.now.task.now.store (common_with common.entry.config common.entry.tables) plan.now.read) result) }
+    ensures made { KeepsIn (S.outside system.now) plan.now common.entry timeline.old timeline.new result }
     ensures cause { OnErr result (OutputFails (S.outside system.now)) }
 {
     match plan.task.store {
@@ -267,7 +267,7 @@ fn lock_and_serve<'a, S: System>(
     system: &S,
     timeline: &mut S::Timeline,
 ) -> Result<u8, WriteFault>
-    ensures made { AddsSome (S.outside system.now) timeline.old timeline.new (Performs (LocksAndRuns (S.outside system.now) plan.now.task.now (common_with common.entry.config common.entry.tables) plan.now.read) result) }
+    ensures made { LocksIn (S.outside system.now) plan.now common.entry timeline.old timeline.new result }
     ensures cause { OnErr result (OutputFails (S.outside system.now)) }
 {
     match lock(alloc, system, timeline, plan.task.games, IN_GAMES) {
@@ -296,7 +296,7 @@ fn host_by<S: System>(
     system: &S,
     timeline: &mut S::Timeline,
 ) -> Result<u8, WriteFault>
-    ensures made { AddsSome (S.outside system.now) timeline.old timeline.new (Performs (HostsBy (S.outside system.now) task.now sources.now) result) }
+    ensures made { HostDoes (S.outside system.now) task.now (HostsBy (S.outside system.now) task.now sources.now) timeline.old timeline.new result }
     ensures cause { OnErr result (OutputFails (S.outside system.now)) }
 {
     let tables = match tables_of(alloc, sources, task.cache) {
@@ -341,14 +341,15 @@ fn places_of<'t>(task: &HostGames<'t>) -> InputPaths<'t>
 /// there that wouldn't be used or is half there, the folder's lock, its store, records that can't go over into that, and the address. Where
 /// memory is refused the line is `refused memory`. Then the line `ready` with the address at which datagrams come goes out, and then a line
 /// for each datagram, as `game_server::serve` has it. It is noted of how many files tables were read, why a store isn't opened, which files
-/// hold no record of their games, and where a log is lost that the games outlive. The error comes only where the output may fail.
+/// hold no record of their games, and where a log is lost that the games outlive. The error comes only where the output may fail; where the
+/// words say that the games outlive their log, only before a datagram is awaited.
 pub fn host_games<S: System>(
     alloc: Global,
     task: &HostGames<'_>,
     system: &S,
     timeline: &mut S::Timeline,
 ) -> Result<u8, WriteFault>
-    ensures made { AddsSome (S.outside system.now) timeline.old timeline.new (Performs (Hosts (S.outside system.now) task.now) result) }
+    ensures made { AddsSome (S.outside system.now) timeline.old timeline.new (PerformsOutliving task.now (Hosts (S.outside system.now) task.now) result) }
     ensures cause { OnErr result (OutputFails (S.outside system.now)) }
 {
     let places = places_of(task);

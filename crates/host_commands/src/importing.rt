@@ -1,8 +1,8 @@
 //! Records that go over from their files into the store of their folder.
 
 ghost use Rattle.std.specs.Prelude.{◌≡◌, ◌++◌, ◌∷◌, [], map, string_bytes, IfOk, OnOk};
-ghost use Rattle.host_commands.specs.Imports.{AreListed, ImportsRecords, PutsComing};
-ghost use Rattle.host_commands.specs.Inside.Importing.{AddsSeen, ListsKept, LooksAtThese, imported_or, put_or};
+ghost use Rattle.host_commands.specs.Imports.{AreListed};
+ghost use Rattle.host_commands.specs.Inside.Importing.{AddsSeen, ImportsIn, ListsKept, LooksAtThese, PutsIn};
 ghost use Rattle.system_io.specs.Records.{IsSettled};
 ghost use Rattle.timeline.specs.Outsides.{AddsSome};
 
@@ -50,7 +50,7 @@ fn list_kept<S: System>(
     }
 }
 
-/// Puts an item behind others.
+/// Puts an item behind others. The error comes only where memory is refused.
 fn add<T: Drop>(items: &mut Vec<T>, item: T) -> Result<(), AllocError>
     ensures { OnOk result (items.new.items ≡ items.old.items ++ item ∷ []) }
 {
@@ -60,7 +60,7 @@ fn add<T: Drop>(items: &mut Vec<T>, item: T) -> Result<(), AllocError>
     }
 }
 
-/// Adds what is found of one more game.
+/// Adds what is found of one more game. The error comes only where memory is refused.
 fn add_seen(coming: &mut Arrivals, stamp: Stamp, seen: Seen) -> Result<(), AllocError>
     ensures { OnOk result (AddsSeen stamp seen coming.old.entries.items coming.old.left.items coming.new.entries.items coming.new.left.items) }
 {
@@ -106,7 +106,7 @@ fn put_coming<S: System>(
     entries: Vec<Entry>,
 ) -> Result<(), Refusal>
     requires settled { IsSettled ((S.outside system.now).store store.old) }
-    ensures made { AddsSome (S.outside system.now) timeline.old timeline.new (PutsComing (S.outside system.now) store.old entries.items (put_or store.new result)) }
+    ensures made { PutsIn (S.outside system.now) store.old store.new entries.items timeline.old timeline.new result }
     ensures settled { OnOk result (IsSettled ((S.outside system.now).store store.new)) }
 {
     if entries.is_empty() {
@@ -132,7 +132,7 @@ pub(crate) fn import_records<S: System>(
     store: &mut S::Store,
 ) -> Result<Vec<Stamp>, Refusal>
     requires settled { IsSettled ((S.outside system.now).store store.old) }
-    ensures made { AddsSome (S.outside system.now) timeline.old timeline.new (ImportsRecords (S.outside system.now) folder.now store.old (imported_or store.new result)) }
+    ensures made { ImportsIn (S.outside system.now) folder.now store.old store.new timeline.old timeline.new result }
     ensures settled { OnOk result (IsSettled ((S.outside system.now).store store.new)) }
 {
     let stamps = match list_kept(alloc, system, timeline, folder) {

@@ -9,7 +9,7 @@
 //! (all of them), `store_opening`, `hosting`.
 //!
 //! Definitions, in reading order: `Notes`, `Binds`, `Locks`, `Ready`, `ServerRuns` (`AnswersAll`), `Listens` (`Listens`); `Listings`,
-//! `Imports` (`ImportsRecords`), `Hosts` (`Hosts`).
+//! `Imports` (`ImportsRecords`), `Hosts` (`Hosts`), `Outliving` (`PerformsOutliving`).
 //!
 //! - CLAIM: `listen`, clause `made`: what the words name is read first; then are refused in this order the text of the start, the tables, the
 //!   address, the lock of the file in which the record is kept, and that file or what stands there. Where that is wanted, the line
@@ -20,9 +20,9 @@
 //!   there, all at once, before the port is bound. The line `ready ADDR` has gone out before a datagram is awaited.
 //! - CLAIM: `listen`, `host_games`, clauses `made`: what follows is a run of `serve` of game_server, over the game's file, the folder's files
 //!   or its store. Of `host` a run that goes on without lines, behind one that can't be written, is one whose words ask for that.
+//! - CLAIM: `host_games`, clause `made`: where its words ask that the games outlive their log, an output that fails ends it only before a
+//!   datagram is awaited.
 //! - CLAIM: `listen`, `host_games`, clauses `cause`: an error comes only where a write might be refused, or what was written couldn't go out.
-//!
-//! Not said: that a run whose log is lost goes on where its words ask for that, since what happened by then is a front of it.
 #![tactic(auto)]
 
 mod arriving;

@@ -5,9 +5,8 @@ ghost use Rattle.answer_parts.specs.Lines.{refusal_words};
 ghost use Rattle.answer_parts.specs.Printing.{OutputFails, Performs};
 ghost use Rattle.command_line.specs.Commands.Listen.{named};
 ghost use Rattle.game_server.specs.Seats.{AreSeats};
-ghost use Rattle.game_server.specs.Sending.{address_of};
-ghost use Rattle.host_commands.specs.Inside.Parts.{ListensFrom, TellsAndRuns, served_one};
-ghost use Rattle.host_commands.specs.Listens.{AsksIf, BindsAndRuns, Listens, ListensBy, LocksAndRuns, OpensAndAnswers, ReadyIf, RunsOne, game_of, served_of, unopened_refusal};
+ghost use Rattle.host_commands.specs.Inside.Parts.{AsksIfIn, BindsIn, LocksIn, OpensAndAnswersIn, RunsIn, StartsIn, TellsIn, served_one};
+ghost use Rattle.host_commands.specs.Listens.{Listens, ListensBy, ListensFrom, game_of, served_of, unopened_refusal};
 ghost use Rattle.task_files.specs.Sources.{named_by};
 ghost use Rattle.timeline.specs.Outsides.{AddsSome, HeardNothing};
 
@@ -65,7 +64,7 @@ fn ask_if<'a, S: System, G: Games<S> + Drop>(
     timeline: &mut S::Timeline,
 )
     ensures same { HeardNothing ((S.outside system.now).port port.old) ((S.outside system.now).port port.new) }
-    ensures made { AddsSome (S.outside system.now) timeline.old timeline.new (AsksIf is_wanted (address_of ((S.outside system.now).port port.old)) at.now.server stamp) }
+    ensures made { AsksIfIn (S.outside system.now) is_wanted at.now port.old stamp timeline.old timeline.new }
 {
     if is_wanted {
         ask(at, system, timeline, port, stamp);
@@ -84,7 +83,7 @@ fn open_and_serve<'a, S: System, G: Games<S> + Drop>(
 ) -> Result<u8, WriteFault>
     requires seats { AreSeats (S.outside system.now) (G.facts system.now) at.old.server }
     requires lines { at.old.lines ≡ Lines.OfOne stamp }
-    ensures made { AddsSome (S.outside system.now) timeline.old timeline.new (Performs (OpensAndAnswers (S.outside system.now) (G.facts system.now) task.now at.old.replies.most stamp port.old at.old.server) result) }
+    ensures made { OpensAndAnswersIn (S.outside system.now) (G.facts system.now) task.now stamp at.old port.old timeline.old timeline.new result }
     ensures cause { OnErr result (OutputFails (S.outside system.now)) }
 {
     match open_game(at, system, timeline, stamp) {
@@ -105,7 +104,7 @@ fn serve_one<'a, S: System, G: Games<S> + Drop>(
     system: &S,
     timeline: &mut S::Timeline,
 ) -> Result<u8, WriteFault>
-    ensures made { AddsSome (S.outside system.now) timeline.old timeline.new (Performs (RunsOne (S.outside system.now) (G.facts system.now) task.now (served_one served.entry) port.old) result) }
+    ensures made { RunsIn (S.outside system.now) (G.facts system.now) task.now served.entry port.old timeline.old timeline.new result }
     ensures cause { OnErr result (OutputFails (S.outside system.now)) }
 {
     let OneServed {
@@ -129,7 +128,7 @@ fn lock_and_serve<'a, S: System, G: Games<S> + Drop>(
     system: &S,
     timeline: &mut S::Timeline,
 ) -> Result<u8, WriteFault>
-    ensures made { AddsSome (S.outside system.now) timeline.old timeline.new (Performs (LocksAndRuns (S.outside system.now) (G.facts system.now) task.now (served_one served.entry) port.old) result) }
+    ensures made { LocksIn (S.outside system.now) (G.facts system.now) task.now served.entry port.old timeline.old timeline.new result }
     ensures cause { OnErr result (OutputFails (S.outside system.now)) }
 {
     match lock(alloc, system, timeline, task.kept, BESIDE_KEPT) {
@@ -147,7 +146,7 @@ fn tell_and_serve<'a, S: System, G: Games<S> + Drop>(
     system: &S,
     timeline: &mut S::Timeline,
 ) -> Result<u8, WriteFault>
-    ensures made { AddsSome (S.outside system.now) timeline.old timeline.new (Performs (TellsAndRuns (S.outside system.now) (G.facts system.now) task.now (served_one served.entry) port.old) result) }
+    ensures made { TellsIn (S.outside system.now) (G.facts system.now) task.now served.entry port.old timeline.old timeline.new result }
     ensures cause { OnErr result (OutputFails (S.outside system.now)) }
 {
     let line = match ready_line(alloc, system, port) {
@@ -169,7 +168,7 @@ fn start_at<'a, S: System, G: Games<S> + Drop>(
     system: &S,
     timeline: &mut S::Timeline,
 ) -> Result<u8, WriteFault>
-    ensures made { AddsSome (S.outside system.now) timeline.old timeline.new (Performs (ReadyIf (S.outside system.now) (G.facts system.now) task.now (served_one served.entry) task.now.ready port.old) result) }
+    ensures made { StartsIn (S.outside system.now) (G.facts system.now) task.now served.entry port.old timeline.old timeline.new result }
     ensures cause { OnErr result (OutputFails (S.outside system.now)) }
 {
     if task.ready {
@@ -187,7 +186,7 @@ fn bind_and_serve<'a, S: System, G: Games<S> + Drop>(
     system: &S,
     timeline: &mut S::Timeline,
 ) -> Result<u8, WriteFault>
-    ensures made { AddsSome (S.outside system.now) timeline.old timeline.new (Performs (BindsAndRuns (S.outside system.now) (G.facts system.now) task.now (served_one served.entry)) result) }
+    ensures made { BindsIn (S.outside system.now) (G.facts system.now) task.now served.entry timeline.old timeline.new result }
     ensures cause { OnErr result (OutputFails (S.outside system.now)) }
 {
     match bind(alloc, system, timeline, task.bind, task.to) {

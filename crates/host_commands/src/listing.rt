@@ -53,7 +53,7 @@ fn note_clash<S: System>(
 }
 
 /// Lists a folder of games: what can't be listed is no such folder. One with a store that wouldn't be used, or with a half of one, is
-/// refused, which is noted.
+/// refused, and a line is noted that says so.
 pub(crate) fn list_games<S: System>(
     alloc: Global,
     system: &S,

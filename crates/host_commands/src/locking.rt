@@ -58,8 +58,8 @@ fn lock_at<S: System>(
     }
 }
 
-/// Locks the file at a path with this end. The error is `InUse` where another process holds its lock, which is noted, `Keeper` where it
-/// can't be locked, and `Memory` where memory is refused.
+/// Locks the file at a path with this end. The error is `InUse` where another process holds its lock, and then a line is noted that says
+/// so; it is `Keeper` where it can't be locked, and `Memory` where memory is refused.
 pub(crate) fn lock<S: System>(
     alloc: Global,
     system: &S,

@@ -4,7 +4,6 @@ ghost use Rattle.std.specs.Prelude.{◌≡◌, string_bytes, IfOk, OnErr};
 ghost use Rattle.answer_parts.specs.Lines.{ready_words};
 ghost use Rattle.answer_parts.specs.Printing.{OutputFails, Performs};
 ghost use Rattle.host_commands.specs.Inside.Parts.{GivesReadyLine, GoesOut};
-ghost use Rattle.host_commands.specs.Notes.{in_words};
 ghost use Rattle.move_msg.specs.TextLines.{ended};
 ghost use Rattle.timeline.specs.Outsides.{AddsSome};
 

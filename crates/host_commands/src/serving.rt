@@ -1,11 +1,10 @@
 //! A run of a server of games.
 
 ghost use Rattle.std.specs.Prelude.{[], OnErr};
-ghost use Rattle.answer_parts.specs.Printing.{OutputFails, Performs};
-ghost use Rattle.game_server.specs.Printing.{KnowsLines, form_in};
+ghost use Rattle.answer_parts.specs.Printing.{OutputFails};
+ghost use Rattle.game_server.specs.Printing.{KnowsLines};
 ghost use Rattle.game_server.specs.Seats.{AreSeats};
-ghost use Rattle.host_commands.specs.ServerRuns.{AnswersAll};
-ghost use Rattle.timeline.specs.Outsides.{AddsSome};
+ghost use Rattle.host_commands.specs.Inside.Parts.{AnswersIn};
 
 use game_folder::Games;
 use game_server::{PortServer, serve};
@@ -22,7 +21,7 @@ pub(crate) fn serve_all<'a, S: System, G: Games<S> + Drop>(
 ) -> Result<u8, WriteFault>
     requires seats { AreSeats (S.outside system.now) (G.facts system.now) at.old.server }
     requires none { KnowsLines at.old.lines [] }
-    ensures made { AddsSome (S.outside system.now) timeline.old timeline.new (Performs (AnswersAll (S.outside system.now) (G.facts system.now) at.old.replies.most n ((S.outside system.now).port port.old).to (form_in at.old.lines) at.old.server) result) }
+    ensures made { AnswersIn (S.outside system.now) (G.facts system.now) n at.old port.old timeline.old timeline.new result }
     ensures cause { OnErr result (OutputFails (S.outside system.now)) }
 {
     serve(at, system, timeline, port, n)

@@ -8,7 +8,7 @@ use Rattle.system_io.specs.declared.output.WriteFault.{WriteFault}
 use Rattle.system_io.specs.declared.port.PortFault.{PortFault}
 use Rattle.system_io.specs.declared.recipient.Recipient.{Recipient}
 use Rattle.timeline.specs.Events.{Event, Came, Missed, Quiet, is_done}
-use Rattle.timeline.specs.Outsides.{Adds, AddsSome, Outside, SendsToSame}
+use Rattle.timeline.specs.Outsides.{Adds, AddsSome, Outside}
 use Rattle.game_folder.specs.Holdings.{GamesFacts}
 use Rattle.game_server.specs.Datagrams.{HearsDatagram}
 use Rattle.game_server.specs.Printing.{KnowsLines, TextEnd, WritesLines, after_lines, form_in, is_out, text_events, written_text}
@@ -80,6 +80,9 @@ pub record HearsOne {T P F K S L G : Type 0} (o : Outside T P F K S L) (facts : 
   pub from : held.sender ≡ sender
   pub holds : now ≡ record was { held = was.held ++ held ∷ [] }
 
+abbrev pub HearsOneIn : {T P F K S L G : Type 0} → Outside T P F K S L → GamesFacts G → Server G F → Server G F → List ℕ → Option SocketAddr → RepliesView → RepliesView → T → T → Type 0
+HearsOneIn o facts old new datagram sender was now t t' = AddsSome o t t' (HearsOne o facts old new datagram sender was now)
+
 -- what is held of a datagram that was heard
 abbrev pub AreHeld : List Heard → List Held → Type 0
 AreHeld [] [] = Unit {0}
@@ -100,9 +103,8 @@ pub record Gathers {T P F K S L G : Type 0} (o : Outside T P F K S L) (facts : G
   pub is : IsGathered came most heard end
   pub events_are : events ≡ flat_map heard_events heard ++ end_events end
 
-pub record GathersFrom {T P F K S L G : Type 0} (o : Outside T P F K S L) (facts : GamesFacts G) (most : ℕ) (old new : Server G F) (port port' : P) (was now : RepliesView) (t t' : T) (came : Bool) : Type 0 where
+pub record GathersFrom {T P F K S L G : Type 0} (o : Outside T P F K S L) (facts : GamesFacts G) (most : ℕ) (old new : Server G F) (was now : RepliesView) (t t' : T) (came : Bool) : Type 0 where
   pub made : AddsSome o t t' (Gathers o facts most old new now.held came)
-  pub same : SendsToSame (o.port port) (o.port port')
   pub most_is : now.most ≡ was.most
 
 -- ---- a turn
@@ -140,3 +142,17 @@ pub record IsNewPortServer {G F : Type 0} (common : CommonView) (games : G) (lin
   pub server : IsNewServer common games at.server
   pub most : at.replies.most ≡ common.together
   pub lines_are : at.lines ≡ lines
+
+-- ---- behind the texts that are known
+
+abbrev pub PrintsIn : {T P F K S L : Type 0} → Outside T P F K S L → Lines → Lines → List Line → T → T → Result (Unit {0}) WriteFault → Type 0
+PrintsIn o old new all t t' result = (before : List (List ℕ)) → KnowsLines old before → WritesAll o before old new all t t' result
+
+abbrev pub EndsIn : {T P F K S L : Type 0} → Outside T P F K S L → Lines → Lines → Line → T → T → Result AfterRound WriteFault → Type 0
+EndsIn o old new line t t' result = (before : List (List ℕ)) → KnowsLines old before → EndsTurn o before old new line t t' result
+
+abbrev pub ConcludesIn : {T P F K S L : Type 0} → Outside T P F K S L → P → Bool → List Held → Lines → Lines → T → T → Result AfterRound WriteFault → Type 0
+ConcludesIn o port is_sent held old new t t' result = (before : List (List ℕ)) → KnowsLines old before → ConcludesRound o before (o.port port).to is_sent held old new t t' result
+
+abbrev pub TurnsIn : {T P F K S L G : Type 0} → Outside T P F K S L → GamesFacts G → ℕ → PortServer G F → PortServer G F → P → T → T → Result AfterRound WriteFault → Type 0
+TurnsIn o facts most old new port t t' result = (before : List (List ℕ)) → KnowsLines old.lines before → TakesTurn o facts before most old new port t t' result

@@ -185,6 +185,12 @@ AnswersMessage o facts old new m reply events = (datagram : List ℕ) → heard_
 
 -- ---- over a timeline
 
+abbrev pub OpensOverIn : {T P F K S L G : Type 0} → Outside T P F K S L → GamesFacts G → Shared G → Shared G → KeptGame F → GameConfig → T → T → Result (Seat F) OpenGameError → Type 0
+OpensOverIn o facts old new kept game t t' result = AddsSome o t t' (OpensOverKept o facts old new kept game result)
+
+abbrev pub OpensTakenIn : {T P F K S L G : Type 0} → Outside T P F K S L → GamesFacts G → Shared G → Shared G → List ℕ → GameConfig → T → T → Result (Seat F) OpenGameError → Type 0
+OpensTakenIn o facts old new stamp game t t' result = AddsSome o t t' (OpensTaken o facts old new stamp game result)
+
 abbrev pub OpensForIn : {T P F K S L G : Type 0} → Outside T P F K S L → GamesFacts G → Shared G → Shared G → Message → T → T → Result (Seat F) OpenGameError → Type 0
 OpensForIn o facts old new m t t' result = AddsSome o t t' (OpensForMessage o facts old new m result)
 

@@ -1,24 +1,27 @@
 -- Parts of `listen` and `host`; cited by private clauses alone.
-use Rattle.std.specs.Prelude.{◌≡◌, ◌<◌, ◌⊎◌, ◌++◌, ℕ, Bool, List, [], ◌∷◌, length, Option, Some, Result, Ok, Err, String, Vec, string_bytes}
+use Rattle.std.specs.Prelude.{◌≡◌, ◌<◌, ◌⊎◌, ℕ, Bool, List, [], ◌∷◌, length, Option, Some, Result, Ok, Err, String, Vec, string_bytes}
 use Rattle.std.specs.Global.{Global}
 use Rattle.std.specs.declared.net.socket_addr.SocketAddr.{SocketAddr}
 use Rattle.answer_parts.specs.Lines.{refusal_words}
+use Rattle.answer_parts.specs.Printing.{Performs}
 use Rattle.answer_parts.specs.declared.answers.refusals.Refusal.{Refusal}
 use Rattle.arbiter_server.specs.Games.{common_with}
-use Rattle.board_core.specs.declared.parts.Parts.{Parts}
 use Rattle.command_line.specs.Addresses.{addresses_of}
 use Rattle.command_line.specs.declared.commands.listen.Listen.{Listen}
 use Rattle.game_folder.specs.Holdings.{GamesFacts}
+use Rattle.game_server.specs.Printing.{form_in}
+use Rattle.game_server.specs.Sending.{address_of}
+use Rattle.game_server.specs.declared.running.PortServer.{PortServer}
 use Rattle.system_io.specs.declared.host.BindFault.{BindFault}
 use Rattle.system_io.specs.declared.host.BindFault.TheVariants as bind
-use Rattle.task_files.specs.Given.{Given}
-use Rattle.timeline.specs.Events.{Event, PortBound}
-use Rattle.timeline.specs.Outsides.{Outside}
-use Rattle.host_commands.specs.Binds.{IsPortOf}
-use Rattle.host_commands.specs.Listens.{LocksAndRuns, OneServed, RunsGame, usual_cache}
+use Rattle.system_io.specs.declared.output.WriteFault.{WriteFault}
+use Rattle.timeline.specs.Events.{Event}
+use Rattle.timeline.specs.Outsides.{AddsSome, Outside}
+use Rattle.host_commands.specs.Binds.{IsPortOf, port_asked}
+use Rattle.host_commands.specs.Listens.{AsksIf, BindsAndRuns, LocksAndRuns, OneServed, OpensAndAnswers, ReadyIf, RunsOne}
 use Rattle.host_commands.specs.Ready.{IsReadyLine, TellsReady}
-use Rattle.host_commands.specs.Steps.{Doing, ThenOrRefused, gone_out}
-use Rattle.host_commands.specs.Tables.{GathersTables, MakesManifest}
+use Rattle.host_commands.specs.ServerRuns.{AnswersAll}
+use Rattle.host_commands.specs.Steps.{Doing, gone_out}
 use Rattle.host_commands.specs.declared.listening.OneServed.{OneServed as OneToServe}
 
 -- a text is written and goes out
@@ -38,14 +41,19 @@ manifest_taken (Err refusal) = Err (refusal_words refusal)
 abbrev pub GivesReadyLine : Option SocketAddr → Result (String Global) Refusal → Type 0
 GivesReadyLine own result = IsReadyLine own (line_taken result) []
 
--- the system refused a port; or memory for several addresses was refused
-abbrev pub LacksPort : {T P F K S L : Type 0} → Outside T P F K S L → List ℕ → List ℕ → BindFault → List Event → Type 0
-LacksPort o address to why events = (o.refuses_port address why × (events ≡ PortBound address (addresses_of to) (Err why) ∷ [])) ⊎ ((why ≡ bind.OutOfMemory) × (1 < length (addresses_of to)) × (events ≡ []))
+module _ {T P F K S L : Type 0} (o : Outside T P F K S L) (address to : List ℕ) where
+  -- memory for several addresses was refused
+  abbrev pub LacksAddressRoom : BindFault → List Event → Type 0
+  LacksAddressRoom why events = (why ≡ bind.OutOfMemory) × (1 < length (addresses_of to)) × (events ≡ [])
 
--- a port is asked for
-abbrev pub AsksForPort : {T P F K S L : Type 0} → Outside T P F K S L → List ℕ → List ℕ → Result P BindFault → List Event → Type 0
-AsksForPort o address to (Ok port) events = IsPortOf o address to port × (events ≡ PortBound address (addresses_of to) (Ok tt) ∷ [])
-AsksForPort o address to (Err why) events = LacksPort o address to why events
+  -- the system refused a port, or there was no room
+  abbrev pub LacksPort : BindFault → List Event → Type 0
+  LacksPort why events = (o.refuses_port address why × (events ≡ port_asked o address to (Err why) ∷ [])) ⊎ LacksAddressRoom why events
+
+  -- a port is asked for
+  abbrev pub AsksForPort : Result P BindFault → List Event → Type 0
+  AsksForPort (Ok port) events = IsPortOf o address to port × (events ≡ port_asked o address to (Ok tt) ∷ [])
+  AsksForPort (Err why) events = LacksPort why events
 
 -- ---- of `listen`
 
@@ -56,6 +64,37 @@ served_one s = record { common = common_with s.config s.tables; games = s.games;
 abbrev pub TellsAndRuns : {T P F K S L G : Type 0} → Outside T P F K S L → GamesFacts G → Listen → OneServed G → P → Doing
 TellsAndRuns o facts l s port = TellsReady (o.port port).own (LocksAndRuns o facts l s port)
 
--- from a start, by what was read
-abbrev pub ListensFrom : {T P F K S L : Type 0} → Outside T P F K S L → Listen → Given → Parts → Doing
-ListensFrom o l given start = ThenOrRefused (GathersTables given usual_cache) (λ set. ThenOrRefused (MakesManifest given) (RunsGame o l start set))
+-- ---- from one moment to another
+
+-- this is done, or a front of it
+abbrev pub DoesIn : {T P F K S L : Type 0} → Outside T P F K S L → Doing → T → T → Result ℕ WriteFault → Type 0
+DoesIn o Does t t' result = AddsSome o t t' (Performs Does result)
+
+module _ {T P F K S L G : Type 0} (o : Outside T P F K S L) where
+  abbrev pub AsksIfIn : Bool → PortServer G F → P → List ℕ → T → T → Type 0
+  AsksIfIn is_wanted at port stamp t t' = AddsSome o t t' (AsksIf is_wanted (address_of (o.port port)) at.server stamp)
+
+module _ {T P F K S L G : Type 0} (o : Outside T P F K S L) (facts : GamesFacts G) where
+  -- so many datagrams of a port are answered
+  abbrev pub AnswersIn : ℕ → PortServer G F → P → T → T → Result ℕ WriteFault → Type 0
+  AnswersIn n at port = DoesIn o (AnswersAll o facts at.replies.most n (o.port port).to (form_in at.lines) at.server)
+
+  -- after the game with this stamp was opened
+  abbrev pub OpensAndAnswersIn : Listen → List ℕ → PortServer G F → P → T → T → Result ℕ WriteFault → Type 0
+  OpensAndAnswersIn l stamp at port = DoesIn o (OpensAndAnswers o facts l at.replies.most stamp port at.server)
+
+  abbrev pub RunsIn : Listen → OneToServe G → P → T → T → Result ℕ WriteFault → Type 0
+  RunsIn l served port = DoesIn o (RunsOne o facts l (served_one served) port)
+
+  -- and before that
+  abbrev pub LocksIn : Listen → OneToServe G → P → T → T → Result ℕ WriteFault → Type 0
+  LocksIn l served port = DoesIn o (LocksAndRuns o facts l (served_one served) port)
+
+  abbrev pub TellsIn : Listen → OneToServe G → P → T → T → Result ℕ WriteFault → Type 0
+  TellsIn l served port = DoesIn o (TellsAndRuns o facts l (served_one served) port)
+
+  abbrev pub StartsIn : Listen → OneToServe G → P → T → T → Result ℕ WriteFault → Type 0
+  StartsIn l served port = DoesIn o (ReadyIf o facts l (served_one served) l.ready port)
+
+  abbrev pub BindsIn : Listen → OneToServe G → T → T → Result ℕ WriteFault → Type 0
+  BindsIn l served = DoesIn o (BindsAndRuns o facts l (served_one served))

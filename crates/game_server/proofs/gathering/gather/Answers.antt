@@ -56,7 +56,6 @@ returns-in-Ok-None-clause-gathers g c =
       made = gathered o (g.G.Games.facts c.args.system.now) c.args.most c.args.server.now c.loop-buffer.server c.loop-buffer.replies.held c.args.timeline.now c.loop-buffer.timeline c.receive_next.new.timeline inv.has NoMore
           (rw c.in-Ok-None.field-0-is at c.in-Ok-None.ensures.made) (some_held (length c.loop-buffer.replies.held) (sym c.is_empty.ensures ∙ waits)) inv.few
           (λ whole. absurd (let w : length c.loop-buffer.replies.held ≡ c.args.most = whole in omega (arith, w, len, test))) (λ is. absurd (let f : NoMore ≡ IsFull = is in cc));
-      same = same_then _ _ _ inv.same c.receive_next.ensures.same;
       most_is = inv.most;
     }
 
@@ -69,7 +68,6 @@ returns-in-Err-clause-gathers g c =
     record {
       made = failed o (g.G.Games.facts c.args.system.now) c.args.most c.args.server.now c.loop-buffer.server c.loop-buffer.replies.held c.args.timeline.now c.loop-buffer.timeline c.receive_next.new.timeline inv.has c.is_empty-in-Err.result c.is_empty-in-Err.ensures
           c.in-Err.ensures.made (omega (arith, len, test));
-      same = same_then _ _ _ inv.same c.receive_next.ensures.same;
       most_is = inv.most;
     }
 
@@ -84,6 +82,14 @@ returns-clause-gathers g c =
     record {
       made = gathered o (g.G.Games.facts c.args.system.now) c.args.most c.args.server.now c.loop-buffer.server c.loop-buffer.replies.held c.args.timeline.now c.loop-buffer.timeline c.loop-buffer.timeline inv.has IsFull
           (adds_none o c.loop-buffer.timeline) (omega (arith, len, test, some)) inv.few (λ whole. refl) (λ is. omega (arith, len, test, few));
-      same = inv.same;
       most_is = inv.most;
     }
+
+pub returns-in-Ok-None-clause-same : goal.returns-in-Ok-None-clause-same
+returns-in-Ok-None-clause-same g c = same_then _ _ _ c.loop-buffer.invariant.same c.receive_next.ensures.same
+
+pub returns-in-Err-clause-same : goal.returns-in-Err-clause-same
+returns-in-Err-clause-same g c = same_then _ _ _ c.loop-buffer.invariant.same c.receive_next.ensures.same
+
+pub returns-clause-same : goal.returns-clause-same
+returns-clause-same g c = c.loop-buffer.invariant.same

@@ -18,7 +18,7 @@ returns-in-Ok-clause-made g c = λ before had.
     let commits = c.in-Ok.ensures.made in
     round_sent_on o (g.G.Games.facts c.args.system.now) before c.args.most c.args.at.now _ c.args.port.now c.gather.new.server c.args.timeline.now c.gather.new.timeline c.commit.new.timeline c.conclude.new.timeline
     (record { common = record { config = refl; tables = refl }; seats = refl }) commits.0 commits.1 c.gather.new.replies.held gathers.made c.conclude.result commits.2
-    (subst (λ (to : List Recipient). ConcludesRound o before to true c.gather.new.replies.held c.args.at.now.lines c.conclude.new.lines c.commit.new.timeline c.conclude.new.timeline c.conclude.result) gathers.same.to (c.conclude.ensures.made before had))
+    (subst (λ (to : List Recipient). ConcludesRound o before to true c.gather.new.replies.held c.args.at.now.lines c.conclude.new.lines c.commit.new.timeline c.conclude.new.timeline c.conclude.result) c.if-not-gather.ensures.same.to (c.conclude.ensures.made before had))
 
 pub returns-in-Err-OutOfMemory-clause-made : goal.returns-in-Err-OutOfMemory-clause-made
 returns-in-Err-OutOfMemory-clause-made g c = λ before had.
@@ -28,7 +28,7 @@ returns-in-Err-OutOfMemory-clause-made g c = λ before had.
     let after = c.conclude-in-Err-OutOfMemory in
     round_withheld o (g.G.Games.facts c.args.system.now) before c.args.most c.args.at.now _ c.args.port.now c.gather.new.server c.args.timeline.now c.gather.new.timeline c.commit.new.timeline after.new.timeline
     (record { common = record { config = refl; tables = refl }; seats = refl }) commits.0 commits.1 c.gather.new.replies.held gathers.made after.result (subst (λ f. CommitsGames (g.G.Games.facts c.args.system.now) {A = Unit {0}} c.gather.new.server.shared.games c.commit.new.self (Err f) commits.0) c.in-Err-OutOfMemory.field-0-is commits.2)
-    (subst (λ (to : List Recipient). ConcludesRound o before to false c.gather.new.replies.held c.args.at.now.lines after.new.lines c.commit.new.timeline after.new.timeline after.result) gathers.same.to (after.ensures.made before had))
+    (subst (λ (to : List Recipient). ConcludesRound o before to false c.gather.new.replies.held c.args.at.now.lines after.new.lines c.commit.new.timeline after.new.timeline after.result) c.if-not-gather.ensures.same.to (after.ensures.made before had))
 
 pub returns-in-Err-StoreLost-clause-made : goal.returns-in-Err-StoreLost-clause-made
 returns-in-Err-StoreLost-clause-made g c = λ before had.

@@ -7,9 +7,9 @@ use Rattle.host_commands.proofs.importing.list_kept.Goals as goal
 pub returns-in-Err : goal.returns-in-Err
 returns-in-Err g c =
     let fault = c.in-Err.fault in
-    (FolderListed c.args.folder.now (Err fault) ∷ [], c.in-Err.ensures.made, NoNames fault (λ is. c.in-Err.ensures.cause (ap Err is)) c.unread.ensures.words refl)
+    (FolderListed c.args.folder.now (Err fault) ∷ [], c.in-Err.ensures.made, NoNames fault (record { cause = λ is. c.in-Err.ensures.cause (ap Err is); is = refl }) c.unread.ensures.words)
 
 pub returns : goal.returns
 returns g c =
     let names = map string_bytes c.in-Ok.names.items in
-    (FolderListed c.args.folder.now (Ok names) ∷ [], c.in-Ok.ensures.made, NoRoomForThem names c.in-Ok.ensures.listed refl refl)
+    (FolderListed c.args.folder.now (Ok names) ∷ [], c.in-Ok.ensures.made, NoRoomForThem names (record { lists = c.in-Ok.ensures.listed; is = refl }) refl)

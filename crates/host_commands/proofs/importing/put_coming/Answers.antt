@@ -9,7 +9,7 @@ pub returns-in-Ok-clause-made : goal.returns-in-Ok-clause-made
 returns-in-Ok-clause-made g c =
     let path = (g.S.System.outside c.args.system.now).store_path c.args.store.now in
     let put = c.in-Ok.ensures in
-    (Committed path (map stamped c.args.entries.items) true ∷ [], put.made, AllPut c.commit.new.store put.all put.kept put.path refl refl)
+    (Committed path (map stamped c.args.entries.items) true ∷ [], put.made, AllPut c.commit.new.store (record { has = put.all; settled = put.kept; path = put.path }) refl refl)
 
 pub returns-in-Err-OutOfMemory-clause-made : goal.returns-in-Err-OutOfMemory-clause-made
 returns-in-Err-OutOfMemory-clause-made g c =

@@ -1,8 +1,7 @@
 use Rattle.std.proofs.Common.{refl}
 use Rattle.answer_parts.specs.Lines.{refused_fen}
 use Rattle.host_commands.proofs.StepLaws.{goes_on_so, is_refused_so}
-use Rattle.host_commands.specs.Inside.Parts.{ListensFrom}
-use Rattle.host_commands.specs.Listens.{IsStart, StartIs, StartIsNone}
+use Rattle.host_commands.specs.Listens.{IsStart, ListensFrom, StartIs, StartIsNone}
 use Rattle.host_commands.proofs.listening.listen_by.Goals as goal
 
 pub returns-in-Ok-clause-made : goal.returns-in-Ok-clause-made

@@ -1,5 +1,5 @@
 use Rattle.std.proofs.Common.{◌∙◌, ap}
-use Rattle.game_server.specs.Printing.{LineForm, OfOne, form_in}
+use Rattle.game_server.specs.Printing.{OfOne, form_in}
 use Rattle.game_server.specs.Inside.HeldReplies.{RepliesView}
 use Rattle.host_commands.proofs.ListenLaws.{answers_as, opened_so, unopened_so}
 use Rattle.host_commands.proofs.listening.open_and_serve.Goals as goal

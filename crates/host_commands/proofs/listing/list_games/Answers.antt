@@ -8,7 +8,7 @@ use Rattle.host_commands.proofs.listing.list_games.Goals as goal
 pub returns-in-Err : goal.returns-in-Err
 returns-in-Err g c =
     let fault = c.in-Err.fault in
-    (FolderListed c.args.folder.now (Err fault) ∷ [], c.in-Err.ensures.made, IsNotListed fault (λ is. c.in-Err.ensures.cause (ap Err is)) (ap Err c.unread.ensures.words) refl)
+    (FolderListed c.args.folder.now (Err fault) ∷ [], c.in-Err.ensures.made, IsNotListed fault (record { cause = λ is. c.in-Err.ensures.cause (ap Err is); is = refl }) (ap Err c.unread.ensures.words))
 
 pub returns-in-Some : goal.returns-in-Some
 returns-in-Some g c =
@@ -19,4 +19,4 @@ pub returns : goal.returns
 returns g c =
     let listed = c.in-Ok.ensures in
     let names = map string_bytes c.in-Ok.names.items in
-    (FolderListed c.args.folder.now (Ok names) ∷ [], listed.made, IsListed names listed.listed (rw c.deref.ensures.value at c.in-None.ensures.none) refl refl)
+    (FolderListed c.args.folder.now (Ok names) ∷ [], listed.made, IsListed names (record { lists = listed.listed; is = refl }) (rw c.deref.ensures.value at c.in-None.ensures.none) refl)

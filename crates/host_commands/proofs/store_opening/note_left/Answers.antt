@@ -1,4 +1,4 @@
-use Rattle.std.proofs.Common.{◌+◌, ℕ, List, subst, sym, take}
+use Rattle.std.proofs.Common.{ℕ, List, subst, sym, take}
 use Rattle.std.proofs.lemmas.List.{take_all}
 use Rattle.host_commands.proofs.ImportLaws.{next_stamp}
 use Rattle.host_commands.proofs.OpenLaws.{none_left, one_left}

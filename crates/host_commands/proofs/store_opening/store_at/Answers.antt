@@ -8,7 +8,7 @@ use Rattle.host_commands.proofs.store_opening.store_at.Goals as goal
 pub returns-in-Ok-clause-made : goal.returns-in-Ok-clause-made
 returns-in-Ok-clause-made g c =
     let opened = c.in-Ok.ensures in
-    (StoreOpened c.args.path.now (Ok tt) ∷ [], opened.made, StoreIs c.in-Ok.store opened.at opened.path opened.settled refl refl)
+    (StoreOpened c.args.path.now (Ok tt) ∷ [], opened.made, StoreIs c.in-Ok.store (record { at = opened.at; named = opened.path; settled = opened.settled }) refl refl)
 
 pub returns-in-Err-Unreadable-clause-made : goal.returns-in-Err-Unreadable-clause-made
 returns-in-Err-Unreadable-clause-made g c =
