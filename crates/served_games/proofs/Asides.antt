@@ -24,11 +24,13 @@ use Rattle.game_folder.specs.Drafts.{DraftView}
 use Rattle.game_folder.specs.Holdings.{GamesFacts}
 use Rattle.game_folder.specs.Places.{InFile, InStore, KeptAt}
 use Rattle.game_server.specs.Datagrams.{IsNotOf}
-use Rattle.game_server.specs.Fates.{Fate, GoesTo, HasGame, IsAnswered, IsFound, IsOther, IsUnopened, IsUnread, KeepsAnswer, KeptIfAny, NotFound, OpensFor, OpensNone, OpensSeat, SeatOpened, SeatRefused, SeatUnkept, TakesAndOpens, TakesNone, TakesOne, fate_leaves, found_draft}
+use Rattle.game_server.specs.Fates.{Fate, GoesTo, HasGame, IsAnswered, IsFound, IsOther, IsUnopened, IsUnread, KeepsAnswer, KeptIfAny, NotFound, OpensFor, OpensNone, OpensSeat, SeatNotHeld, SeatOpened, SeatRefused, SeatUnkept, TakesAndOpens, TakesNone, TakesOne, fate_leaves, found_draft}
 use Rattle.game_server.specs.Printing.{LineForm, TextEnd, WasCut, WasStuck, WentOut, WritesLines, lines_out, text_events, text_out, written_text}
 use Rattle.game_server.specs.Rounds.{Heard, IsFull, NoMore, ReceiveFails, RoundEnd, end_events, reply_sent, round_sent}
 use Rattle.game_server.specs.Sending.{Address, address, message_sent, sent}
 use Rattle.served_games.specs.Durable.{IsToldAt, KeepsAtOnce, MayFind, StaysFound, behind}
+use Rattle.served_games.specs.PlaceKeepers.{AtPlace, BehindTake, IsThere}
+use Rattle.served_games.proofs.Reaching.{has_there}
 use Rattle.served_games.proofs.Finding.{stays_as, stays_join, stays_none}
 
 -- ---- the port and the output
@@ -130,68 +132,69 @@ module _ {G : Type 0} (facts : GamesFacts G) (at_once : KeepsAtOnce facts) (t : 
   at = facts.places place stamp
 
   module _ (other : List ℕ) (apart : bytes_eq other stamp ≡ false) (its : IsToldAt facts place other) where
-    if_any_stays : (past : List Event) (to_put : Option (List ℕ)) (events : List Event) → KeptIfAny facts place other to_put events → StaysFound at stamp past events
-    if_any_stays past None events h = stays_none at stamp past events h
-    if_any_stays past (Some bytes) events h = at_once.keeps_apart place stamp other bytes mine its apart true events past h
+    if_any_stays : (old new : G) → IsThere facts place old → (past : List Event) (to_put : Option (List ℕ)) (events : List Event) → KeptIfAny facts old other to_put events new → StaysFound at stamp past events
+    if_any_stays old new there past None events h = stays_none at stamp past events h.0
+    if_any_stays old new there past (Some bytes) events h = at_once.keeps_apart place old new there stamp other bytes mine its apart true events past h
 
-    answer_stays : (past : List Event) (told : Told) (to_put : Option (List ℕ)) (is_kept : Bool) (events : List Event) → KeepsAnswer facts place other told to_put is_kept events → StaysFound at stamp past events
-    answer_stays past (Err fault) to_put is_kept events h = stays_none at stamp past events h
-    answer_stays past (Ok outputs) None is_kept events h = stays_none at stamp past events h
-    answer_stays past (Ok outputs) (Some bytes) is_kept events h = at_once.keeps_apart place stamp other bytes mine its apart is_kept events past h
+    answer_stays : (old new : G) → IsThere facts place old → (past : List Event) (told : Told) (to_put : Option (List ℕ)) (is_kept : Bool) (events : List Event) → KeepsAnswer facts old other told to_put is_kept events new → StaysFound at stamp past events
+    answer_stays old new there past (Err fault) to_put is_kept events h = stays_none at stamp past events h.0
+    answer_stays old new there past (Ok outputs) None is_kept events h = stays_none at stamp past events h.0
+    answer_stays old new there past (Ok outputs) (Some bytes) is_kept events h = at_once.keeps_apart place old new there stamp other bytes mine its apart is_kept events past h
 
-    seat_stays : (past : List Event) (game : GameConfig) (draft : DraftView) (events : List Event) (told : Result (Moment DraftView) OpenGameError) → OpensSeat facts place other (setup_of t game.name.items game.start game.delay) draft events told → StaysFound at stamp past events
-    seat_stays past game draft events told (SeatRefused after fault h none is) = stays_none at stamp past events none
-    seat_stays past game draft events told (SeatUnkept after v bytes h put keeps is) = at_once.keeps_apart place stamp other bytes mine its apart false events past keeps
-    seat_stays past game draft events told (SeatOpened after v h kept is) = if_any_stays past after.to_put events kept
+    seat_stays : (old new : G) → IsThere facts place old → (past : List Event) (game : GameConfig) (draft : DraftView) (events : List Event) (told : Result (Moment DraftView) OpenGameError) → OpensSeat facts old other (setup_of t game.name.items game.start game.delay) draft events told new → StaysFound at stamp past events
+    seat_stays old new there past game draft events told (SeatRefused after fault h none same is) = stays_none at stamp past events none
+    seat_stays old new there past game draft events told (SeatUnkept after v bytes h put keeps is) = at_once.keeps_apart place old new there stamp other bytes mine its apart false events past keeps
+    seat_stays old new there past game draft events told (SeatNotHeld after v h kept is) = if_any_stays old new there past after.to_put events kept
+    seat_stays old new there past game draft events told (SeatOpened after v h kept is) = if_any_stays old new there past after.to_put events kept
 
-    taking_stays : (past : List Event) (game : GameConfig) (events : List Event) (told : Result (Moment DraftView) OpenGameError) → TakesAndOpens facts t g other game events told → StaysFound at stamp past events
-    taking_stays past game events told (TakesNone why takes is) = at_once.takes_apart place g refl stamp other mine its apart (Err why) events past takes
-    taking_stays past game events told (TakesOne taken put got takes seat are) =
+    taking_stays : (new : G) (past : List Event) (game : GameConfig) (events : List Event) (told : Result (Moment DraftView) OpenGameError) → TakesAndOpens facts t g other game events told new → StaysFound at stamp past events
+    taking_stays new past game events told (TakesNone why takes is) = at_once.takes_apart place g new (AtPlace refl) stamp other mine its apart (Err why) events past takes
+    taking_stays new past game events told (TakesOne taken put got mid takes seat are) =
         stays_as at stamp past events (taken ++ put) are
-        (stays_join at stamp past taken put (at_once.takes_apart place g refl stamp other mine its apart (Ok got) taken past takes) (seat_stays (behind past taken) game (found_draft got) put told seat))
+        (stays_join at stamp past taken put (at_once.takes_apart place g mid (AtPlace refl) stamp other mine its apart (Ok got) taken past takes) (seat_stays mid new (BehindTake g other (Ok got) taken (AtPlace refl) takes) (behind past taken) game (found_draft got) put told seat))
 
-  opens_stays : (m : Message) → bytes_eq (stamp_in m) stamp ≡ false → (past events : List Event) (told : Result (Moment DraftView) OpenGameError) → OpensFor facts t g m events told → StaysFound at stamp past events
-  opens_stays m apart past events told (OpensNone opens none is) = stays_none at stamp past events none
-  opens_stays m apart past events told (NotFound why opens finds is) = at_once.finds place stamp (stamp_in m) (Err why) events past finds
-  opens_stays m apart past events told (IsOther game opens finds not is) = at_once.finds place stamp (stamp_in m) (Ok game) events past finds
-  opens_stays m apart past events told (IsFound game looked rest opens finds game_is takes are) =
+  opens_stays : (m : Message) → bytes_eq (stamp_in m) stamp ≡ false → (past events : List Event) (told : Result (Moment DraftView) OpenGameError) (new : G) → OpensFor facts t g m events told new → StaysFound at stamp past events
+  opens_stays m apart past events told new (OpensNone opens none same is) = stays_none at stamp past events none
+  opens_stays m apart past events told new (NotFound why opens finds same is) = at_once.finds place stamp (stamp_in m) (Err why) events past finds
+  opens_stays m apart past events told new (IsOther game opens finds not same is) = at_once.finds place stamp (stamp_in m) (Ok game) events past finds
+  opens_stays m apart past events told new (IsFound game looked rest opens finds game_is takes are) =
       stays_as at stamp past events (looked ++ rest) are
-      (stays_join at stamp past looked rest (at_once.finds place stamp (stamp_in m) (Ok game) looked past finds) (taking_stays (stamp_in m) apart (record { game = game; events = looked; finds = finds; manifest = t.manifest; is = game_is }) (behind past looked) game rest told takes))
+      (stays_join at stamp past looked rest (at_once.finds place stamp (stamp_in m) (Ok game) looked past finds) (taking_stays (stamp_in m) apart (record { game = game; events = looked; finds = finds; manifest = t.manifest; is = game_is }) new (behind past looked) game rest told takes))
 
-  has_stays : (m : Message) → bytes_eq (stamp_in m) stamp ≡ false → (past events : List Event) (was : Option (Moment DraftView)) (now : Moment DraftView) → HasGame facts t g m was events now → StaysFound at stamp past events
-  has_stays m apart past events (Some x) now h = stays_none at stamp past events h.1
-  has_stays m apart past events None now h = opens_stays m apart past events (Ok now) h
+  has_stays : (m : Message) → bytes_eq (stamp_in m) stamp ≡ false → (past events : List Event) (was : Option (Moment DraftView)) (now : Moment DraftView) (new : G) → HasGame facts t g m was events now new → StaysFound at stamp past events
+  has_stays m apart past events (Some x) now new h = stays_none at stamp past events h.1
+  has_stays m apart past events None now new h = opens_stays m apart past events (Ok now) new h
 
 -- ---- a game that answers is found
 
 module _ {G : Type 0} (facts : GamesFacts G) (t : CommonView) (g : G) where
-  opened_told : (m : Message) (events : List Event) (now : Moment DraftView) → OpensFor facts t g m events (Ok now) → IsToldAt facts (facts.place g) (stamp_in m)
-  opened_told m events now (OpensNone opens none is) = absurd (let f : ◌≡◌ {A = Result (Moment DraftView) OpenGameError} (Ok now) (Err why_not.NotOpen) = is in cc)
-  opened_told m events now (NotFound why opens finds is) = absurd (let f : ◌≡◌ {A = Result (Moment DraftView) OpenGameError} (Ok now) (Err why) = is in cc)
-  opened_told m events now (IsOther game opens finds not is) = absurd (let f : ◌≡◌ {A = Result (Moment DraftView) OpenGameError} (Ok now) (Err why_not.OtherGame) = is in cc)
-  opened_told m events now (IsFound game looked rest opens finds game_is takes are) = record { game = game; events = looked; finds = finds; manifest = t.manifest; is = game_is }
+  opened_told : (m : Message) (events : List Event) (now : Moment DraftView) (new : G) → OpensFor facts t g m events (Ok now) new → IsToldAt facts (facts.place g) (stamp_in m)
+  opened_told m events now new (OpensNone opens none same is) = absurd (let f : ◌≡◌ {A = Result (Moment DraftView) OpenGameError} (Ok now) (Err why_not.NotOpen) = is in cc)
+  opened_told m events now new (NotFound why opens finds same is) = absurd (let f : ◌≡◌ {A = Result (Moment DraftView) OpenGameError} (Ok now) (Err why) = is in cc)
+  opened_told m events now new (IsOther game opens finds not same is) = absurd (let f : ◌≡◌ {A = Result (Moment DraftView) OpenGameError} (Ok now) (Err why_not.OtherGame) = is in cc)
+  opened_told m events now new (IsFound game looked rest opens finds game_is takes are) = record { game = game; events = looked; finds = finds; manifest = t.manifest; is = game_is }
 
   -- where it was open, it was found before
   abbrev pub WasTold : Message → Option (Moment DraftView) → Type 0
   WasTold m was = (x : Moment DraftView) → was ≡ Some x → IsToldAt facts (facts.place g) (stamp_in m)
 
-  has_told : (m : Message) (was : Option (Moment DraftView)) (events : List Event) (now : Moment DraftView) → WasTold m was → HasGame facts t g m was events now → IsToldAt facts (facts.place g) (stamp_in m)
-  has_told m (Some x) events now told h = told x refl
-  has_told m None events now told h = opened_told m events now h
+  has_told : (m : Message) (was : Option (Moment DraftView)) (events : List Event) (now : Moment DraftView) (new : G) → WasTold m was → HasGame facts t g m was events now new → IsToldAt facts (facts.place g) (stamp_in m)
+  has_told m (Some x) events now new told h = told x refl
+  has_told m None events now new told h = opened_told m events now new h
 
-  pub told_by : (datagram : List ℕ) (m : Message) (was : Option (Moment DraftView)) (events : List Event) (fate : Fate) → heard_in datagram ≡ Ok m → WasTold m was → GoesTo facts t g datagram was events fate → (fate_leaves fate ≡ None) ⊎ IsToldAt facts (facts.place g) (stamp_in m)
-  told_by datagram m was events fate h told (IsUnread fault e none is) = inl (ap fate_leaves is)
-  told_by datagram m was events fate h told (IsUnopened m' why e none opens is) = inl (ap fate_leaves is)
-  told_by datagram m was events fate h told (IsAnswered m' first rest now after answer is_kept e has answers are is) =
+  pub told_by : (datagram : List ℕ) (m : Message) (was : Option (Moment DraftView)) (events : List Event) (fate : Fate) (new : G) → heard_in datagram ≡ Ok m → WasTold m was → GoesTo facts t g datagram was events fate new → (fate_leaves fate ≡ None) ⊎ IsToldAt facts (facts.place g) (stamp_in m)
+  told_by datagram m was events fate new h told (IsUnread fault e none same is) = inl (ap fate_leaves is)
+  told_by datagram m was events fate new h told (IsUnopened m' why e none opens is) = inl (ap fate_leaves is)
+  told_by datagram m was events fate new h told (IsAnswered m' first rest now after answer is_kept mid e has answers are is) =
       let same : m' ≡ m = let f : ◌≡◌ {A = Result Message MessageFault} (Ok m') (Ok m) = sym e ∙ h in cc in
-      inr (has_told m was first now told (subst (λ (x : Message). HasGame facts t g x was first now) same has))
+      inr (has_told m was first now mid told (subst (λ (x : Message). HasGame facts t g x was first now mid) same has))
 
 module _ {G : Type 0} (facts : GamesFacts G) (at_once : KeepsAtOnce facts) (t : CommonView) (g : G) (stamp : List ℕ) (mine : IsToldAt facts (facts.place g) stamp) where
-  pub other_stays : (datagram : List ℕ) (was : Option (Moment DraftView)) (events past : List Event) (fate : Fate) → IsNotOf stamp (heard_in datagram) → ((m : Message) → heard_in datagram ≡ Ok m → WasTold facts t g m was) → GoesTo facts t g datagram was events fate → StaysFound (facts.places (facts.place g) stamp) stamp past events
-  other_stays datagram was events past fate not told (IsUnread fault h none is) = stays_none (facts.places (facts.place g) stamp) stamp past events none
-  other_stays datagram was events past fate not told (IsUnopened m why h none opens is) = opens_stays facts at_once t g stamp mine m (subst (IsNotOf stamp) h not) past events (Err why) opens
-  other_stays datagram was events past fate not told (IsAnswered m first rest now after answer is_kept h has answers are is) =
+  pub other_stays : (datagram : List ℕ) (was : Option (Moment DraftView)) (events past : List Event) (fate : Fate) (new : G) → IsNotOf stamp (heard_in datagram) → ((m : Message) → heard_in datagram ≡ Ok m → WasTold facts t g m was) → GoesTo facts t g datagram was events fate new → StaysFound (facts.places (facts.place g) stamp) stamp past events
+  other_stays datagram was events past fate new not told (IsUnread fault h none same is) = stays_none (facts.places (facts.place g) stamp) stamp past events none
+  other_stays datagram was events past fate new not told (IsUnopened m why h none opens is) = opens_stays facts at_once t g stamp mine m (subst (IsNotOf stamp) h not) past events (Err why) new opens
+  other_stays datagram was events past fate new not told (IsAnswered m first rest now after answer is_kept mid h has answers are is) =
       let apart : bytes_eq (stamp_in m) stamp ≡ false = subst (IsNotOf stamp) h not in
-      let its : IsToldAt facts (facts.place g) (stamp_in m) = has_told facts t g m was first now (told m h) has in
+      let its : IsToldAt facts (facts.place g) (stamp_in m) = has_told facts t g m was first now mid (told m h) has in
       stays_as (facts.places (facts.place g) stamp) stamp past events (first ++ rest) are
-      (stays_join (facts.places (facts.place g) stamp) stamp past first rest (has_stays facts at_once t g stamp mine m apart past first was now has) (answer_stays facts at_once t g stamp mine (stamp_in m) apart its (behind past first) answer after.keeper.to_put is_kept rest answers.kept))
+      (stays_join (facts.places (facts.place g) stamp) stamp past first rest (has_stays facts at_once t g stamp mine m apart past first was now mid has) (answer_stays facts at_once t g stamp mine (stamp_in m) apart its mid new (has_there facts (facts.place g) t g mid m was first now has (AtPlace refl)) (behind past first) answer after.keeper.to_put is_kept rest answers.kept))

@@ -10,10 +10,12 @@ use Rattle.system_io.specs.declared.reading.ReadFault.{ReadFault}
 use Rattle.system_io.specs.declared.reading.ReadFault.TheVariants as read
 use Rattle.timeline.specs.Events.{Event, FileOpened, Found, Put}
 use Rattle.game_folder.specs.FolderGames.{FindsInFolder, HadNoPath, Sought, folder_games_facts}
-use Rattle.game_folder.specs.OneGame.{one_game_facts}
+use Rattle.game_folder.specs.OneGame.{OneGameView, OnePlace, one_game_facts}
 use Rattle.game_folder.specs.Places.{InFile}
+use Rattle.game_folder.specs.declared.folder_games.FolderGames.{FolderGames}
 use Rattle.game_folder.specs.RecordFiles.{HadNoRoom, NotOpened, Started, TakesFromFile, puts_in_file, started}
 use Rattle.served_games.specs.Durable.{IfSame, IsDurableAfter, IsToldAt, KeepsAtOnce, MayFind, StaysFound, behind}
+use Rattle.served_games.specs.PlaceKeepers.{AtPlace, BehindPut, BehindTake, IsThere}
 use Rattle.served_games.proofs.Finding.{stays_none}
 use Rattle.served_games.proofs.Stamping.{paths_apart, stamp_fits, stamps_apart}
 
@@ -23,7 +25,7 @@ pub if_same : (path : List ℕ) (so otherwise : Type 0) → IfSame path path so 
 if_same path so otherwise (inl h) = h.1
 if_same path so otherwise (inr h) = absurd (h.0 refl)
 
-if_other : (a b : List ℕ) (so otherwise : Type 0) → a ≢ b → IfSame a b so otherwise → otherwise
+pub if_other : (a b : List ℕ) (so otherwise : Type 0) → a ≢ b → IfSame a b so otherwise → otherwise
 if_other a b so otherwise apart (inl h) = absurd (apart h.0)
 if_other a b so otherwise apart (inr h) = h.1
 
@@ -112,35 +114,52 @@ folder_apart folder stamp other mine its apart =
     (stamp_fits mine.manifest stamp mine.game.name.items mine.game.start mine.game.delay mine.is)
     (stamp_fits its.manifest other its.game.name.items its.game.start its.game.delay its.is) apart
 
+-- no call changes where the folder is
+folder_there : (folder : List ℕ) (g : FolderGames) → IsThere folder_games_facts folder g → g.folder.now ≡ folder
+folder_there folder g (AtPlace is) = is
+folder_there folder g (BehindTake old stamp result events there takes) = ap (λ (x : FolderGames). x.folder.now) takes.1 ∙ folder_there folder old there
+folder_there folder g (BehindPut old stamp bytes is_done events there keeps) = ap (λ (x : FolderGames). x.folder.now) keeps.1 ∙ folder_there folder old there
+
+puts_there : (folder stamp bytes : List ℕ) (is_done : Bool) (events : List Event) (g : FolderGames) → IsThere folder_games_facts folder g → events ≡ puts_in_file (kept_path g.folder.now stamp) bytes is_done → events ≡ puts_in_file (kept_path folder stamp) bytes is_done
+puts_there folder stamp bytes is_done events g there are = subst (λ (x : List ℕ). events ≡ puts_in_file (kept_path x stamp) bytes is_done) (folder_there folder g there) are
+
 pub folder_games_keep_at_once : KeepsAtOnce folder_games_facts
 folder_games_keep_at_once = record {
   finds = folder_finds;
-  takes = λ folder g there stamp got events past takes durable.
-      file_takes (kept_path folder stamp) stamp got events past (subst (λ (x : List ℕ). TakesFromFile (kept_path x stamp) (Ok got) events) there takes) durable;
-  withholds = λ folder g there stamp why events past takes.
-      file_withholds (kept_path folder stamp) stamp why events past (subst (λ (x : List ℕ). TakesFromFile (kept_path x stamp) (Err why) events) there takes);
-  keeps = λ folder stamp bytes events past are. file_keeps (kept_path folder stamp) stamp bytes events past are;
-  fails = λ folder stamp bytes events past are. file_fails (kept_path folder stamp) stamp bytes events past are;
-  takes_apart = λ folder g there stamp other mine its apart result events past takes.
-      file_takes_apart (kept_path folder stamp) stamp (kept_path folder other) (folder_apart folder stamp other mine its apart) result events past (subst (λ (x : List ℕ). TakesFromFile (kept_path x other) result events) there takes);
-  keeps_apart = λ folder stamp other bytes mine its apart is_done events past are.
-      file_keeps_apart (kept_path folder stamp) stamp (kept_path folder other) (folder_apart folder stamp other mine its apart) bytes is_done events past are;
-  commits = λ folder g there stamp is_done events past done. stays_none (InFile (kept_path folder stamp)) stamp past events done.1;
+  takes = λ folder g now there stamp got events past takes durable.
+      file_takes (kept_path folder stamp) stamp got events past (subst (λ (x : List ℕ). TakesFromFile (kept_path x stamp) (Ok got) events) (folder_there folder g there) takes.0) durable;
+  withholds = λ folder g now there stamp why events past takes.
+      file_withholds (kept_path folder stamp) stamp why events past (subst (λ (x : List ℕ). TakesFromFile (kept_path x stamp) (Err why) events) (folder_there folder g there) takes.0);
+  keeps = λ folder g now there stamp bytes events past keeps. file_keeps (kept_path folder stamp) stamp bytes events past (puts_there folder stamp bytes true events g there keeps.0);
+  fails = λ folder g now there stamp bytes events past keeps. file_fails (kept_path folder stamp) stamp bytes events past (puts_there folder stamp bytes false events g there keeps.0);
+  takes_apart = λ folder g now there stamp other mine its apart result events past takes.
+      file_takes_apart (kept_path folder stamp) stamp (kept_path folder other) (folder_apart folder stamp other mine its apart) result events past (subst (λ (x : List ℕ). TakesFromFile (kept_path x other) result events) (folder_there folder g there) takes.0);
+  keeps_apart = λ folder g now there stamp other bytes mine its apart is_done events past keeps.
+      file_keeps_apart (kept_path folder stamp) stamp (kept_path folder other) (folder_apart folder stamp other mine its apart) bytes is_done events past (puts_there folder other bytes is_done events g there keeps.0);
+  commits = λ folder g now there stamp told events past done. stays_none (InFile (kept_path folder stamp)) stamp past events done.1;
 }
 
 -- ---- one game
+
+one_there : (at : OnePlace) (g : OneGameView) → IsThere one_game_facts at g → g.at ≡ at
+one_there at g (AtPlace is) = is
+one_there at g (BehindTake old stamp result events there takes) = ap (λ (x : OneGameView). x.at) takes.1 ∙ one_there at old there
+one_there at g (BehindPut old stamp bytes is_done events there keeps) = ap (λ (x : OneGameView). x.at) keeps.1 ∙ one_there at old there
+
+one_puts : (at : OnePlace) (bytes : List ℕ) (is_done : Bool) (events : List Event) (g : OneGameView) → IsThere one_game_facts at g → events ≡ puts_in_file g.at.path bytes is_done → events ≡ puts_in_file at.path bytes is_done
+one_puts at bytes is_done events g there are = subst (λ (x : OnePlace). events ≡ puts_in_file x.path bytes is_done) (one_there at g there) are
 
 -- no other one is found there
 pub one_game_keeps_at_once : KeepsAtOnce one_game_facts
 one_game_keeps_at_once = record {
   finds = λ at stamp other result events past finds. stays_none (InFile at.path) stamp past events finds.1;
-  takes = λ at g there stamp got events past takes durable.
-      file_takes at.path stamp got events past (subst (λ x. TakesFromFile x.path (Ok got) events) there takes) durable;
-  withholds = λ at g there stamp why events past takes.
-      file_withholds at.path stamp why events past (subst (λ x. TakesFromFile x.path (Err why) events) there takes);
-  keeps = λ at stamp bytes events past are. file_keeps at.path stamp bytes events past are;
-  fails = λ at stamp bytes events past are. file_fails at.path stamp bytes events past are;
-  takes_apart = λ at g there stamp other mine its apart. absurd (stamps_apart stamp other apart (its.finds.0.0 ∙ sym mine.finds.0.0));
-  keeps_apart = λ at stamp other bytes mine its apart. absurd (stamps_apart stamp other apart (its.finds.0.0 ∙ sym mine.finds.0.0));
-  commits = λ at g there stamp is_done events past done. stays_none (InFile at.path) stamp past events done.1;
+  takes = λ at g now there stamp got events past takes durable.
+      file_takes at.path stamp got events past (subst (λ (x : OnePlace). TakesFromFile x.path (Ok got) events) (one_there at g there) takes.0) durable;
+  withholds = λ at g now there stamp why events past takes.
+      file_withholds at.path stamp why events past (subst (λ (x : OnePlace). TakesFromFile x.path (Err why) events) (one_there at g there) takes.0);
+  keeps = λ at g now there stamp bytes events past keeps. file_keeps at.path stamp bytes events past (one_puts at bytes true events g there keeps.0);
+  fails = λ at g now there stamp bytes events past keeps. file_fails at.path stamp bytes events past (one_puts at bytes false events g there keeps.0);
+  takes_apart = λ at g now there stamp other mine its apart. absurd (stamps_apart stamp other apart (its.finds.0.0 ∙ sym mine.finds.0.0));
+  keeps_apart = λ at g now there stamp other bytes mine its apart. absurd (stamps_apart stamp other apart (its.finds.0.0 ∙ sym mine.finds.0.0));
+  commits = λ at g now there stamp told events past done. stays_none (InFile at.path) stamp past events done.1;
 }

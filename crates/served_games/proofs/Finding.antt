@@ -8,7 +8,7 @@ use Rattle.timeline.specs.Events.{Event}
 use Rattle.game_folder.specs.Holdings.{GamesFacts}
 use Rattle.game_folder.specs.Places.{KeptAt}
 use Rattle.served_games.specs.Durable.{IsDurableAfter, IsFoundIn, KeepsAtOnce, MayFind, StaysFound, behind, left_before}
-use Rattle.served_games.specs.PlaceKeepers.{Follows, PlaceKeeper, found_keeper}
+use Rattle.served_games.specs.PlaceKeepers.{AtPlace, BehindTake, Follows, IsThere, PlaceKeeper, found_keeper}
 use Rattle.served_games.specs.ServedGames.{AreOverLeft, ClosesMake, IsOverLeft, IsPut, Looked, LooksInVain, Makes, MakesAll, NothingPut, NotLooked, NotTaken, OpensBy, OpensOverLeft, PutFails, PutsBy, life_by, life_through}
 use Rattle.served_games.proofs.Going.{Acts, Life}
 
@@ -48,7 +48,7 @@ module _ (before : PlaceKeeper) where
   left_at at true = refl
   left_at at false = refl
 
-  left_act : (old : Life) (act : Action PlaceKeeper) → life_by (left_before before old) act ≡ left_before before (life_by old act)
+  pub left_act : (old : Life) (act : Action PlaceKeeper) → life_by (left_before before old) act ≡ left_before before (life_by old act)
   left_act old (Unread datagram fault) = refl
   left_act old (Strange of datagram tried why) = refl
   left_act old (Refuses of datagram o fault) = refl
@@ -66,7 +66,7 @@ over_join a (x ∷ xs) ys p q = (p.0, over_join (life_by a x) xs ys p.1 q)
 
 -- ---- keepers
 
-follows_kept : (k : PlaceKeeper) (found : Option (List ℕ)) → k.unkept ≡ None → Follows k (found_keeper found) → found ≡ k.kept
+pub follows_kept : (k : PlaceKeeper) (found : Option (List ℕ)) → k.unkept ≡ None → Follows k (found_keeper found) → found ≡ k.kept
 follows_kept k found none (inl same) = same
 follows_kept k found none (inr p) = absurd (let f : ◌≡◌ {A = Option (List ℕ)} None (Some p.0) = sym none ∙ p.1 in cc)
 
@@ -77,10 +77,10 @@ module _ {G : Type 0} (facts : GamesFacts G) (at_once : KeepsAtOnce facts) (plac
   at = facts.places place stamp
 
   -- behind a put
-  puts_found : (past events : List Event) (k now : PlaceKeeper) → PutsBy facts place stamp k now events → ((found : Option (List ℕ)) → MayFind at stamp past found → found ≡ k.kept) → (found : Option (List ℕ)) → MayFind at stamp (behind past events) found → Follows now (found_keeper found)
-  puts_found past events k now (NothingPut same none) h found m = inl (h found (stays_none at stamp past events none found m) ∙ ap (λ (x : PlaceKeeper). x.kept) (sym same))
-  puts_found past events k now (IsPut bytes keeps is) h found m = inl (at_once.keeps place stamp bytes events past keeps found m ∙ ap (λ (x : PlaceKeeper). x.kept) (sym is))
-  puts_found past events k now (PutFails bytes keeps is) h found m = by (at_once.fails place stamp bytes events past keeps found m)
+  puts_found : (past events : List Event) (games after : G) → IsThere facts place games → (k now : PlaceKeeper) → PutsBy facts place stamp games k now events after → ((found : Option (List ℕ)) → MayFind at stamp past found → found ≡ k.kept) → (found : Option (List ℕ)) → MayFind at stamp (behind past events) found → Follows now (found_keeper found)
+  puts_found past events games after there k now (NothingPut same none still) h found m = inl (h found (stays_none at stamp past events none found m) ∙ ap (λ (x : PlaceKeeper). x.kept) (sym same))
+  puts_found past events games after there k now (IsPut bytes keeps is) h found m = inl (at_once.keeps place games after there stamp bytes events past keeps found m ∙ ap (λ (x : PlaceKeeper). x.kept) (sym is))
+  puts_found past events games after there k now (PutFails bytes keeps is) h found m = by (at_once.fails place games after there stamp bytes events past keeps found m)
     where
       by : (found ≡ Some bytes) ⊎ MayFind at stamp past found → Follows now (found_keeper found)
       by (inl new) = inr (bytes, ap (λ (x : PlaceKeeper). x.unkept) is, new)
@@ -89,9 +89,9 @@ module _ {G : Type 0} (facts : GamesFacts G) (at_once : KeepsAtOnce facts) (plac
   vain_stays : (past events : List Event) → LooksInVain facts place stamp events → StaysFound at stamp past events
   vain_stays past events (NotLooked none) = stays_none at stamp past events none
   vain_stays past events (Looked result finds) = at_once.finds place stamp stamp result events past finds
-  vain_stays past events (NotTaken game looked finds games there why taken takes are) =
+  vain_stays past events (NotTaken game looked finds games there why taken after takes are) =
       stays_as at stamp past events (looked ++ taken) are
-      (stays_join at stamp past looked taken (at_once.finds place stamp stamp (Ok game) looked past finds) (at_once.withholds place games there stamp why taken (behind past looked) takes))
+      (stays_join at stamp past looked taken (at_once.finds place stamp stamp (Ok game) looked past finds) (at_once.withholds place games after (AtPlace there) stamp why taken (behind past looked) takes))
 
   record OpensFound (past events : List Event) (o : Opening PlaceKeeper) : Type 0 where
     over : MayFind at stamp past o.before.kept
@@ -101,11 +101,11 @@ module _ {G : Type 0} (facts : GamesFacts G) (at_once : KeepsAtOnce facts) (plac
   opens_found past events o b durable =
       let all : IsDurableAfter at stamp past (b.looked ++ (b.taken ++ b.put)) = subst (IsDurableAfter at stamp past) b.are durable in
       let after : IsDurableAfter at stamp (behind past b.looked) (b.taken ++ b.put) = durable_rest at stamp past b.looked (b.taken ++ b.put) all in
-      let taken = at_once.takes place b.games b.there stamp o.before.kept b.taken (behind past b.looked) b.takes (durable_first at stamp (behind past b.looked) b.taken b.put after) in
+      let taken = at_once.takes place b.games b.after (AtPlace b.there) stamp o.before.kept b.taken (behind past b.looked) b.takes (durable_first at stamp (behind past b.looked) b.taken b.put after) in
       let joined : behind past events ≡ behind (behind (behind past b.looked) b.taken) b.put = ap (behind past) b.are ∙ behind_join past b.looked (b.taken ++ b.put) ∙ behind_join (behind past b.looked) b.taken b.put in
       record {
         over = at_once.finds place stamp stamp (Ok b.game) b.looked past b.finds o.before.kept taken.0;
-        found = λ found m. puts_found (behind (behind past b.looked) b.taken) b.put o.before o.now b.puts taken.1 found (subst (λ (l : List Event). MayFind at stamp l found) joined m);
+        found = λ found m. puts_found (behind (behind past b.looked) b.taken) b.put b.after b.last (BehindTake b.games stamp (Ok o.before.kept) b.taken (AtPlace b.there) b.takes) o.before o.now b.puts taken.1 found (subst (λ (l : List Event). MayFind at stamp l found) joined m);
       }
 
   -- an opening is over what was left, wherever no arbiter is open
@@ -114,9 +114,9 @@ module _ {G : Type 0} (facts : GamesFacts G) (at_once : KeepsAtOnce facts) (plac
   is_over past (Shut left) next h m = h next.kept m
   is_over past (Open now) next h m = tt
 
-  answers_found : (past events : List Event) (now after : Moment PlaceKeeper) → PutsBy facts place stamp now.keeper after.keeper events → (after.arbiter.is_down ≡ false → after.keeper.unkept ≡ None) → IsFoundIn at stamp past before (Open now) → (b : Bool) → after.arbiter.is_down ≡ b → IsFoundIn at stamp (behind past events) before (cond b (Shut after.keeper) (Open after))
-  answers_found past events now after puts up h true is = λ found m. puts_found past events now.keeper after.keeper puts h found m
-  answers_found past events now after puts up h false is = λ found m. follows_kept after.keeper found (up is) (puts_found past events now.keeper after.keeper puts h found m)
+  answers_found : (past events : List Event) (games last : G) → IsThere facts place games → (now after : Moment PlaceKeeper) → PutsBy facts place stamp games now.keeper after.keeper events last → (after.arbiter.is_down ≡ false → after.keeper.unkept ≡ None) → IsFoundIn at stamp past before (Open now) → (b : Bool) → after.arbiter.is_down ≡ b → IsFoundIn at stamp (behind past events) before (cond b (Shut after.keeper) (Open after))
+  answers_found past events games last there now after puts up h true is = λ found m. puts_found past events games last there now.keeper after.keeper puts h found m
+  answers_found past events games last there now after puts up h false is = λ found m. follows_kept after.keeper found (up is) (puts_found past events games last there now.keeper after.keeper puts h found m)
 
   -- what one act leaves
   record ActFound (past events : List Event) (old : Life) (act : Action PlaceKeeper) : Type 0 where
@@ -137,7 +137,7 @@ module _ {G : Type 0} (facts : GamesFacts G) (at_once : KeepsAtOnce facts) (plac
       let x = opens_found past events o m.0 durable in record { over = is_over past old o.before h x.over; found = λ found may. follows_kept o.now found m.1 (x.found found may) }
   act_found past events Fresh (Answers of e) m durable h = absurd m
   act_found past events (Shut left) (Answers of e) m durable h = absurd m
-  act_found past events (Open now) (Answers of e) m durable h = record { over = tt; found = answers_found past events now e.after m.0 m.1 h e.after.arbiter.is_down refl }
+  act_found past events (Open now) (Answers of e) m durable h = record { over = tt; found = answers_found past events m.0 m.1 m.2 now e.after m.3 m.4 h e.after.arbiter.is_down refl }
   act_found past events old (Closes of left) m durable h = record { over = tt; found = closes_found past events old left m h }
 
   -- what acts leave

@@ -1,6 +1,8 @@
 pub mod Carrying
 pub mod Opening
 pub mod Going
+pub mod Reaching
+pub mod InTurn
 pub mod Playing
 pub mod Running
 pub mod Telling
@@ -9,7 +11,10 @@ pub mod Finding
 pub mod Asides
 pub mod Following
 pub mod Enduring
-pub mod Lost
 pub mod Stamping
 pub mod AtOnce
 pub mod OneGames
+pub mod FolderRuns
+pub mod FileHistories
+pub mod InOrder
+pub mod Taking

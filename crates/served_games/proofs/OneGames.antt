@@ -18,7 +18,6 @@ use Rattle.served_games.specs.PlaceKeepers.{found_keeper}
 use Rattle.served_games.specs.Unasked.{Begins, WithNone, WithOne}
 use Rattle.served_games.proofs.AtOnce.{if_same, one_game_keeps_at_once}
 use Rattle.served_games.proofs.Enduring.{runs_last}
-use Rattle.served_games.proofs.Lost.{lost_are_closed}
 
 pub begun_hears : {T P F K S L G : Type 0} (o : Outside T P F K S L) (facts : GamesFacts G) (first old : Server G F) (unasked : List Heard) → Begins o facts first unasked old → HearsAll o facts first unasked old
 unfolding HearsAll
@@ -29,7 +28,7 @@ module _ {T P F K S L : Type 0} (o : Outside T P F K S L) (t : CommonView) (game
   abbrev setup : SetupView
   setup = setup_of t game.name.items game.start game.delay
 
-  same_setup : (c : CommonView) (other : GameConfig) → c ≡ t → game_as_told other.name.items other.start other.delay ≡ game_as_told game.name.items game.start game.delay → setup_of c other.name.items other.start other.delay ≡ setup
+  pub same_setup : (c : CommonView) (other : GameConfig) → c ≡ t → game_as_told other.name.items other.start other.delay ≡ game_as_told game.name.items game.start game.delay → setup_of c other.name.items other.start other.delay ≡ setup
   same_setup c other common_is told =
       ap (λ (x : CommonView). setup_of x other.name.items other.start other.delay) common_is ∙ ap (λ (g : GameContents). setup_of t g.name g.start g.delay) told
 
@@ -37,8 +36,7 @@ module _ {T P F K S L : Type 0} (o : Outside T P F K S L) (t : CommonView) (game
   is_served past r h = record {
     there = ap (λ (g : OneGameView). g.at) h.new.games_are;
     closed = h.new.none;
-    one = λ other events finds. same_setup (common r.old) other h.new.common_is finds.0.1;
-    most = h.most;
+    one = λ other events finds happened. same_setup (common r.old) other h.new.common_is finds.0.1;
     form = h.form;
     texts = h.texts;
     opens = begun_hears o one_game_facts r.old r.begun r.unasked h.begins;
@@ -55,7 +53,7 @@ module _ {T P F K S L : Type 0} (o : Outside T P F K S L) (t : CommonView) (game
 
 pub one_game_keeps_what_it_told : {T P F K S L : Type 0} (o : Outside T P F K S L) → OneGameKeepsWhatItTold o
 one_game_keeps_what_it_told o t game stamp path there runs is are durable =
-    runs_last o one_game_facts (lost_are_closed o one_game_facts) one_game_keeps_at_once (one_place game stamp path) stamp (setup_of t game.name.items game.start game.delay) (Found path (Ok there) ∷ []) (found_keeper there) runs
+    runs_last o one_game_facts one_game_keeps_at_once (one_place game stamp path) stamp (setup_of t game.name.items game.start game.delay) (Found path (Ok there) ∷ []) (found_keeper there) runs
     (record { game = game; events = []; finds = ((refl, refl), refl); manifest = t.manifest; is = is })
     (λ found m. inl (if_same path (found ≡ there) (Unit {0}) m))
     (are_served o t game stamp path (Found path (Ok there) ∷ []) runs are)

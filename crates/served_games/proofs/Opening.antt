@@ -140,21 +140,21 @@ opening_unkept setup got after v bytes h put = by (begun setup got after v h)
 -- ---- its record is kept
 
 module _ {G : Type 0} (facts : GamesFacts G) (place : facts.Place) (stamp : List ℕ) where
-  pub record IsOpened (setup : SetupView) (got : Option (List ℕ)) (after : DraftView) (v : View) (events : List Event) : Type 0 where
+  pub record IsOpened (games : G) (setup : SetupView) (got : Option (List ℕ)) (after : DraftView) (v : View) (events : List Event) (new : G) : Type 0 where
     pub now : PlaceKeeper
     pub opening : IsOpening place_facts setup (found_keeper got) now (Ok v)
-    pub puts : PutsBy facts place stamp (found_keeper got) now events
+    pub puts : PutsBy facts place stamp games (found_keeper got) now events new
     pub left : settled after ≡ found_draft now.kept
     pub none : now.unkept ≡ None
     pub runs : v.is_down ≡ false
 
-  pub opened : (setup : SetupView) (got : Option (List ℕ)) (after : DraftView) (v : View) (events : List Event) → IsOpening draft_facts setup (found_draft got) after (Ok v) → KeptIfAny facts place stamp after.to_put events → IsOpened setup got after v events
-  opened setup got after v events h kept = by (begun setup got after v h)
+  pub opened : (games new : G) (setup : SetupView) (got : Option (List ℕ)) (after : DraftView) (v : View) (events : List Event) → IsOpening draft_facts setup (found_draft got) after (Ok v) → KeptIfAny facts games stamp after.to_put events new → IsOpened games setup got after v events new
+  opened games new setup got after v events h kept = by (begun setup got after v h)
     where
-      by : Begun setup got after v → IsOpened setup got after v events
+      by : Begun setup got after v → IsOpened games setup got after v events new
       by b = from b.begins
         where
-          first : (bytes : List ℕ) → WritesRecord bytes (spelled_as b.me.stamp setup.delay (first_record (rules_at setup))) → IsSpelled b.me.stamp setup.delay (first_record (rules_at setup)) (Some bytes) → facts.keeps place stamp bytes true events → IsOpened setup None (record { kept = Some bytes; to_put = Some bytes }) (running setup b.me (first_record (rules_at setup))) events
+          first : (bytes : List ℕ) → WritesRecord bytes (spelled_as b.me.stamp setup.delay (first_record (rules_at setup))) → IsSpelled b.me.stamp setup.delay (first_record (rules_at setup)) (Some bytes) → facts.keeps games stamp bytes true events new → IsOpened games setup None (record { kept = Some bytes; to_put = Some bytes }) (running setup b.me (first_record (rules_at setup))) events new
           first bytes writes spelled e = record {
             now = has_put (found_keeper None) bytes;
             opening = settled_opening setup (found_keeper None) (has_put (found_keeper None) bytes) (Ok (running setup b.me (first_record (rules_at setup)))) b.me b.good b.is (inr (inr (first_put setup b.me bytes writes spelled)));
@@ -164,17 +164,17 @@ module _ {G : Type 0} (facts : GamesFacts G) (place : facts.Place) (stamp : List
             runs = refl;
           }
 
-          from : Begins setup b.me got after v → IsOpened setup got after v events
+          from : Begins setup b.me got after v → IsOpened games setup got after v events new
           from (AtFirst sent none same writes spelled is) =
-              subst (λ (x : Option (List ℕ)). IsOpened setup x after v events) (sym none)
-              (subst (λ (w : View). IsOpened setup None after w events) (sym same)
-              (subst (λ (d : DraftView). KeptIfAny facts place stamp d.to_put events → IsOpened setup None d (running setup b.me (first_record (rules_at setup))) events) (sym is) (first sent writes spelled) kept))
+              subst (λ (x : Option (List ℕ)). IsOpened games setup x after v events new) (sym none)
+              (subst (λ (w : View). IsOpened games setup None after w events new) (sym same)
+              (subst (λ (d : DraftView). KeptIfAny facts games stamp d.to_put events new → IsOpened games setup None d (running setup b.me (first_record (rules_at setup))) events new) (sym is) (first sent writes spelled) kept))
           from (Goes bytes some resumes is) =
-              subst (λ (d : DraftView). KeptIfAny facts place stamp d.to_put events → IsOpened setup got d v events) (sym is)
-              (λ e. subst (λ (x : Option (List ℕ)). IsOpened setup x (found_draft x) v events) (sym some) (record {
+              subst (λ (d : DraftView). KeptIfAny facts games stamp d.to_put events new → IsOpened games setup got d v events new) (sym is)
+              (λ e. subst (λ (x : Option (List ℕ)). IsOpened games setup x (found_draft x) v events new) (sym some) (record {
                 now = found_keeper (Some bytes);
                 opening = settled_opening setup (found_keeper (Some bytes)) (found_keeper (Some bytes)) (Ok v) b.me b.good b.is (inr (inr (refl, resumes, refl)));
-                puts = NothingPut refl e;
+                puts = NothingPut refl e.0 e.1;
                 left = refl;
                 none = refl;
                 runs = ap (λ (w : View). w.is_down) resumes.0;

@@ -1,5 +1,5 @@
 -- One game in a run: datagram by datagram, round by round, turn by turn.
-use Rattle.std.proofs.Common.{◌≡◌, inl, inr, ◌∙◌, ℕ, Bool, true, false, cond, List, [], ◌∷◌, ◌++◌, Option, None, option_map, refl, sym, ap, subst}
+use Rattle.std.proofs.Common.{◌≡◌, inl, inr, ◌∙◌, ℕ, Bool, true, false, cond, List, [], ◌∷◌, ◌++◌, Option, option_map, refl, sym, ap, subst}
 use Rattle.std.specs.Prelude.{Result, Ok, Err}
 use Rattle.std.specs.Str.{bytes_eq}
 use Rattle.arbiter_core.specs.Delivers.{Moment}
@@ -22,7 +22,7 @@ use Rattle.game_server.specs.Runs.{Answers, Deed, HearsNone, InTurns, IsDeed, Tu
 use Rattle.game_server.specs.Seats.{common, open_at, seat_moment}
 use Rattle.game_server.specs.declared.seat.Seat.{Seat}
 use Rattle.game_server.specs.declared.server.Server.{Server}
-use Rattle.served_games.specs.ServedGames.{GamesArePlayed, IsAt, LostAreClosed, PlayedGame, PlaysAll, game_at, heard_by, heard_in_turns, is_for, is_lost, made_for, reply_for, reply_to}
+use Rattle.served_games.specs.ServedGames.{GamesArePlayed, IsAt, PlayedGame, PlaysAll, game_at, heard_by, heard_in_turns, is_for, made_for, reply_for, reply_to}
 use Rattle.served_games.proofs.Going.{Life, plays_join}
 use Rattle.served_games.proofs.Playing.{Next, aside, fate_reply, fated, reply_with}
 
@@ -33,9 +33,9 @@ module _ {T P F K S L G : Type 0} (o : Outside T P F K S L) (facts : GamesFacts 
   abbrev seen : Holding → Option (Seat F) → Option (Moment DraftView)
   seen set seat = option_map (seat_moment set) seat
 
-  module _ (old new : Server G F) (heard : Heard) (h : HearsDatagram o facts old new heard.datagram heard.reply heard.events) (closed : is_lost h.fate ≡ true → was_open new (heard_in heard.datagram) ≡ None) (life : Life) where
+  module _ (old new : Server G F) (heard : Heard) (h : HearsDatagram o facts old new heard.datagram heard.reply heard.events) (life : Life) where
     abbrev Goal : List ℕ → Type 0
-    Goal stamp = Next facts (common old) old.shared.games stamp life (reply_for stamp heard) (made_for stamp heard) (game_at new stamp)
+    Goal stamp = Next facts (common old) old.shared.games stamp life (reply_for stamp heard) (made_for stamp heard) (game_at new stamp) old.shared.games (cond (is_for stamp heard) new.shared.games old.shared.games)
 
     -- it is of another game, or of none
     left_seen : (was now : Option (Seat F)) → IsLeftOpen was now → IsLeftOpen (seen old.shared.tables was) (seen new.shared.tables now)
@@ -44,8 +44,8 @@ module _ {T P F K S L G : Type 0} (o : Outside T P F K S L) (facts : GamesFacts 
 
     other : (stamp : List ℕ) → is_for stamp heard ≡ false → IsNotOf stamp (heard_in heard.datagram) → IsAt (game_at old stamp) life → Goal stamp
     other stamp is not at =
-        subst (λ (b : Bool). Next facts (common old) old.shared.games stamp life (cond b (reply_to heard ∷ []) []) (cond b heard.events []) (game_at new stamp)) (sym is)
-        (aside facts (common old) old.shared.games stamp life (game_at old stamp) (game_at new stamp) at (left_seen (open_at old stamp) (open_at new stamp) (h.others stamp not)))
+        subst (λ (b : Bool). Next facts (common old) old.shared.games stamp life (cond b (reply_to heard ∷ []) []) (cond b heard.events []) (game_at new stamp) old.shared.games (cond b new.shared.games old.shared.games)) (sym is)
+        (aside facts (common old) old.shared.games stamp life (game_at old stamp) (game_at new stamp) old.shared.games at (left_seen (open_at old stamp) (open_at new stamp) (h.others stamp not)))
 
     -- it is of this game
     module _ (m : Message) (is : heard_in heard.datagram ≡ Ok m) where
@@ -55,13 +55,12 @@ module _ {T P F K S L G : Type 0} (o : Outside T P F K S L) (facts : GamesFacts 
       own : IsAt (game_at old (stamp_in m)) life → Goal (stamp_in m)
       own at =
           let stamp = stamp_in m in
-          let goes : GoesTo facts (common old) old.shared.games heard.datagram (game_at old stamp) heard.events h.fate = subst (λ (r : Result Message MessageFault). GoesTo facts (common old) old.shared.games heard.datagram (was_open old r) heard.events h.fate) is h.goes in
-          let left : IsLeftOpen (fate_leaves h.fate) (game_at new stamp) = subst (λ (r : Result Message MessageFault). IsLeftOpen (fate_leaves h.fate) (was_open new r)) is h.own in
-          let lost : is_lost h.fate ≡ true → game_at new stamp ≡ None = subst (λ (r : Result Message MessageFault). is_lost h.fate ≡ true → was_open new r ≡ None) is closed in
+          let goes : GoesTo facts (common old) old.shared.games heard.datagram (game_at old stamp) heard.events h.fate new.shared.games = subst (λ (r : Result Message MessageFault). GoesTo facts (common old) old.shared.games heard.datagram (was_open old r) heard.events h.fate new.shared.games) is h.goes in
+          let left : game_at new stamp ≡ fate_leaves h.fate = subst (λ (r : Result Message MessageFault). was_open new r ≡ fate_leaves h.fate) is h.own in
           let its : is_for stamp heard ≡ true = ap (λ (r : Result Message MessageFault). is_stamp stamp (stamp_by r)) is ∙ itself stamp in
-          let n = fated facts (common old) old.shared.games heard.datagram m is (game_at old stamp) (game_at new stamp) life heard.events at h.fate goes left lost in
-          subst (λ (b : Bool). Next facts (common old) old.shared.games stamp life (cond b (reply_to heard ∷ []) []) (cond b heard.events []) (game_at new stamp)) (sym its)
-          (subst (λ (r : DatagramReply). Next facts (common old) old.shared.games stamp life (r ∷ []) heard.events (game_at new stamp)) reply_is n)
+          let n = fated facts (common old) old.shared.games heard.datagram m is (game_at old stamp) (game_at new stamp) life heard.events at h.fate new.shared.games goes left in
+          subst (λ (b : Bool). Next facts (common old) old.shared.games stamp life (cond b (reply_to heard ∷ []) []) (cond b heard.events []) (game_at new stamp) old.shared.games (cond b new.shared.games old.shared.games)) (sym its)
+          (subst (λ (r : DatagramReply). Next facts (common old) old.shared.games stamp life (r ∷ []) heard.events (game_at new stamp) old.shared.games new.shared.games) reply_is n)
 
       by_stamp : (stamp : List ℕ) (b : Bool) → bytes_eq (stamp_in m) stamp ≡ b → IsAt (game_at old stamp) life → Goal stamp
       by_stamp stamp true same at = let s : stamp_in m ≡ stamp = same_stamp (stamp_in m) stamp same in subst (λ (x : List ℕ). IsAt (game_at old x) life → Goal x) s own at
@@ -90,7 +89,7 @@ module _ {T P F K S L G : Type 0} (o : Outside T P F K S L) (facts : GamesFacts 
   abbrev Played : Server G F → List ℕ → Life → List Heard → Server G F → Type 0
   Played old stamp life hs new = PlayedGame facts (facts.place old.shared.games) (common old) stamp life hs (game_at new stamp)
 
-  module _ (closes : LostAreClosed o facts) (stamp : List ℕ) where
+  module _ (stamp : List ℕ) where
     -- what was played from a server that stayed the same
     pub before : (old mid : Server G F) (life : Life) (hs : List Heard) (now : Option (Moment DraftView)) → StaysServer old mid → PlayedGame facts (facts.place mid.shared.games) (common mid) stamp life hs now → PlayedGame facts (facts.place old.shared.games) (common old) stamp life hs now
     before old mid life hs now s p = subst (λ (c : CommonView). PlayedGame facts (facts.place old.shared.games) c stamp life hs now) s.common_is (subst (λ (x : facts.Place). PlayedGame facts x (common mid) stamp life hs now) s.place p)
@@ -106,7 +105,7 @@ module _ {T P F K S L G : Type 0} (o : Outside T P F K S L) (facts : GamesFacts 
     one_played : (old new : Server G F) (life : Life) (h : Heard) → HearsDatagram o facts old new h.datagram h.reply h.events → IsAt (game_at old stamp) life → Played old stamp life (h ∷ []) new
     unfolding PlaysAll
     one_played old new life h d at =
-        let n = played_one old new h d (closes old new h.datagram h.reply h.events d) life stamp at in
+        let n = played_one old new h d life stamp at in
         record { each = n.acts ∷ []; life = n.to; plays = (n.to, n.on, refl); at = n.at }
 
     none_played : (old new : Server G F) (life : Life) → game_at new stamp ≡ game_at old stamp → IsAt (game_at old stamp) life → Played old stamp life [] new
@@ -118,7 +117,7 @@ module _ {T P F K S L G : Type 0} (o : Outside T P F K S L) (facts : GamesFacts 
 
     pub stays_all : (old new : Server G F) (hs : List Heard) → HearsAll o facts old hs new → StaysServer old new
     unfolding HearsAll
-    stays_all old new [] p = record { common_is = ap common p; place = ap (λ (s : Server G F). facts.place s.games) p }
+    stays_all old new [] p = record { common_is = ap common p; place = ap (λ (s : Server G F). facts.place s.shared.games) p }
     stays_all old new (h ∷ hs) p = stays_on old p.0 new (stays_one old p.0 h p.1) (stays_all p.0 new hs p.2)
 
     pub all_played : (old new : Server G F) (life : Life) (hs : List Heard) → HearsAll o facts old hs new → IsAt (game_at old stamp) life → Played old stamp life hs new
@@ -137,34 +136,34 @@ module _ {T P F K S L G : Type 0} (o : Outside T P F K S L) (facts : GamesFacts 
     pub same_game : (mid new : Server G F) → new.shared.tables ≡ mid.shared.tables → new.seats ≡ mid.seats → game_at new stamp ≡ game_at mid stamp
     same_game mid new tables seats = ap (λ (set : Holding). option_map (seat_moment set) (open_at new stamp)) tables ∙ ap (λ (l : _). option_map (seat_moment mid.shared.tables) (Rattle.arbiter_server.specs.Room.at_stamp (Rattle.lru.specs.LruCache.LruCache.entries l) stamp)) seats
 
-    deed_played : (most : ℕ) (old new : Server G F) (life : Life) (deed : Deed) → IsDeed o facts most old deed new → IsAt (game_at old stamp) life → DeedPlayed old life deed new
-    deed_played most old new life (Answers round) r at =
+    deed_played : (old new : Server G F) (life : Life) (deed : Deed) → IsDeed o facts old deed new → IsAt (game_at old stamp) life → DeedPlayed old life deed new
+    deed_played old new life (Answers round) r at =
         let p = all_played old r.mid life round.heard r.heard at in
         record {
-          stays = stays_on old r.mid new (stays_all old r.mid round.heard r.heard) (record { common_is = stays_by r.mid new r.same.config r.same.tables; place = r.commits.still.place });
-          played = record { each = p.each; life = p.life; plays = p.plays; at = subst (λ (w : Option (Moment DraftView)). IsAt w p.life) (sym (same_game r.mid new r.same.tables r.same.seats)) p.at };
+          stays = stays_on old r.mid new (stays_all old r.mid round.heard r.heard) (record { common_is = stays_by r.mid new r.same.common.config r.same.common.tables; place = r.commits.still.place });
+          played = record { each = p.each; life = p.life; plays = p.plays; at = subst (λ (w : Option (Moment DraftView)). IsAt w p.life) (sym (same_game r.mid new r.same.common.tables r.same.seats)) p.at };
         }
-    deed_played most old new life HearsNone is at = record {
-      stays = record { common_is = ap common is; place = ap (λ (s : Server G F). facts.place s.games) is };
+    deed_played old new life HearsNone is at = record {
+      stays = record { common_is = ap common is; place = ap (λ (s : Server G F). facts.place s.shared.games) is };
       played = none_played old new life (ap (λ (s : Server G F). game_at s stamp) is) at;
     }
 
-    turns_played : (most : ℕ) (form : LineForm) (texts : List (List ℕ)) (old new : Server G F) (turns : List Turn) (life : Life) → InTurns o facts most form texts old turns new → IsAt (game_at old stamp) life → Played old stamp life (heard_in_turns turns) new
+    turns_played : (form : LineForm) (texts : List (List ℕ)) (old new : Server G F) (turns : List Turn) (life : Life) → InTurns o facts form texts old turns new → IsAt (game_at old stamp) life → Played old stamp life (heard_in_turns turns) new
     unfolding InTurns
-    turns_played most form texts old new [] life p at = none_played old new life (ap (λ (s : Server G F). game_at s stamp) p) at
-    turns_played most form texts old new (turn ∷ turns) life p at =
-        let d = deed_played most old p.0 life turn.deed p.1.deed at in
+    turns_played form texts old new [] life p at = none_played old new life (ap (λ (s : Server G F). game_at s stamp) p) at
+    turns_played form texts old new (turn ∷ turns) life p at =
+        let d = deed_played old p.0 life turn.deed p.1.deed at in
         more old p.0 new life (heard_by turn.deed) (heard_in_turns turns) d.played
-        (before old p.0 d.played.life (heard_in_turns turns) (game_at new stamp) d.stays (turns_played most form (after_lines texts (deed_lines turn.deed)) p.0 new turns d.played.life p.2 d.played.at))
+        (before old p.0 d.played.life (heard_in_turns turns) (game_at new stamp) d.stays (turns_played form (after_lines texts (deed_lines turn.deed)) p.0 new turns d.played.life p.2 d.played.at))
 
-    deed_stays : (most : ℕ) (old new : Server G F) (deed : Deed) → IsDeed o facts most old deed new → StaysServer old new
-    deed_stays most old new (Answers r) is = stays_on old is.mid new (stays_all old is.mid r.heard is.heard) (record { common_is = stays_by is.mid new is.same.config is.same.tables; place = is.commits.still.place })
-    deed_stays most old new HearsNone is = record { common_is = ap common is; place = ap (λ (s : Server G F). facts.place s.games) is }
+    deed_stays : (old new : Server G F) (deed : Deed) → IsDeed o facts old deed new → StaysServer old new
+    deed_stays old new (Answers r) is = stays_on old is.mid new (stays_all old is.mid r.heard is.heard) (record { common_is = stays_by is.mid new is.same.common.config is.same.common.tables; place = is.commits.still.place })
+    deed_stays old new HearsNone is = record { common_is = ap common is; place = ap (λ (s : Server G F). facts.place s.shared.games) is }
 
-    pub turns_stay : (most : ℕ) (form : LineForm) (texts : List (List ℕ)) (old new : Server G F) (turns : List Turn) → InTurns o facts most form texts old turns new → StaysServer old new
+    pub turns_stay : (form : LineForm) (texts : List (List ℕ)) (old new : Server G F) (turns : List Turn) → InTurns o facts form texts old turns new → StaysServer old new
     unfolding InTurns
-    turns_stay most form texts old new [] p = record { common_is = ap common p; place = ap (λ (s : Server G F). facts.place s.games) p }
-    turns_stay most form texts old new (turn ∷ turns) p = stays_on old p.0 new (deed_stays most old p.0 turn.deed p.1.deed) (turns_stay most form (after_lines texts (deed_lines turn.deed)) p.0 new turns p.2)
+    turns_stay form texts old new [] p = record { common_is = ap common p; place = ap (λ (s : Server G F). facts.place s.shared.games) p }
+    turns_stay form texts old new (turn ∷ turns) p = stays_on old p.0 new (deed_stays old p.0 turn.deed p.1.deed) (turns_stay form (after_lines texts (deed_lines turn.deed)) p.0 new turns p.2)
 
-  pub games_are_played : LostAreClosed o facts → GamesArePlayed o facts
-  games_are_played closes most form texts old new turns stamp was p at = turns_played closes stamp most form texts old new turns was p at
+  pub games_are_played : GamesArePlayed o facts
+  games_are_played form texts old new turns stamp was p at = turns_played stamp form texts old new turns was p at

@@ -1,11 +1,12 @@
 -- What a start may find of a game's record, by all that happened before, over all runs (this project's own).
 use Rattle.std.specs.Prelude.{◌≡◌, ◌≢◌, ◌⊎◌, ◌++◌, ℕ, Bool, true, false, List, [], ◌∷◌, Option, Some, None, Result, Ok, Err, cond}
-use Rattle.std.specs.List.{AllByRecursion, flat_map}
+use Rattle.std.specs.List.{AllByRecursion, Contains, flat_map}
 use Rattle.std.specs.Str.{bytes_eq}
 use Rattle.arbiter_core.specs.Delivers.{Moment}
 use Rattle.arbiter_core.specs.Setups.{SetupView}
 use Rattle.arbiter_server.specs.Games.{CommonView, Fresh, GameStatus, IsGameOf, Open, Shut, setup_of}
 use Rattle.arbiter_server.specs.declared.fault.OpenGameError.{OpenGameError}
+use Rattle.arbiter_server.specs.declared.fault.Uncommitted.{Uncommitted}
 use Rattle.arbiter_server.specs.declared.games.GameConfig.{GameConfig}
 use Rattle.system_io.specs.Records.{StoredRecord}
 use Rattle.system_io.specs.declared.recipient.Recipient.{Recipient}
@@ -21,7 +22,7 @@ use Rattle.game_server.specs.Seats.{common, open_at}
 use Rattle.game_server.specs.declared.seat.Seat.{Seat}
 use Rattle.game_server.specs.declared.server.Server.{Server}
 use Rattle.served_games.specs.Lasting.{IsToldStill}
-use Rattle.served_games.specs.PlaceKeepers.{Follows, PlaceKeeper, found_keeper}
+use Rattle.served_games.specs.PlaceKeepers.{Follows, IsThere, PlaceKeeper, found_keeper}
 use Rattle.served_games.specs.ServedGames.{AreOverLeft, IsAt, OpenedGame, PlayedGame, acts_in, all_acts, game_at, heard_in_turns}
 
 -- where two are the same it is so, and where they aren't it is otherwise
@@ -116,27 +117,27 @@ pub record KeepsAtOnce {G : Type 0} (facts : GamesFacts G) : Type 0 where
   pub finds : (place : facts.Place) (stamp other : List ℕ) (result : Result GameConfig OpenGameError) (events past : List Event)
       → facts.finds place other result events → StaysFound (facts.places place stamp) stamp past events
   -- what is taken may be found, and is found then
-  pub takes : (place : facts.Place) (g : G) → facts.place g ≡ place
-      → (stamp : List ℕ) (got : Option (List ℕ)) (events past : List Event) → facts.takes g stamp (Ok got) events
+  pub takes : (place : facts.Place) (g now : G) → IsThere facts place g
+      → (stamp : List ℕ) (got : Option (List ℕ)) (events past : List Event) → facts.takes g stamp (Ok got) events now
       → IsDurableAfter (facts.places place stamp) stamp past events
       → MayFind (facts.places place stamp) stamp past got × ((found : Option (List ℕ)) → MayFind (facts.places place stamp) stamp (behind past events) found → found ≡ got)
-  pub withholds : (place : facts.Place) (g : G) → facts.place g ≡ place
-      → (stamp : List ℕ) (why : OpenGameError) (events past : List Event) → facts.takes g stamp (Err why) events
+  pub withholds : (place : facts.Place) (g now : G) → IsThere facts place g
+      → (stamp : List ℕ) (why : OpenGameError) (events past : List Event) → facts.takes g stamp (Err why) events now
       → StaysFound (facts.places place stamp) stamp past events
-  pub keeps : (place : facts.Place) (stamp bytes : List ℕ) (events past : List Event) → facts.keeps place stamp bytes true events
+  pub keeps : (place : facts.Place) (g now : G) → IsThere facts place g → (stamp bytes : List ℕ) (events past : List Event) → facts.keeps g stamp bytes true events now
       → (found : Option (List ℕ)) → MayFind (facts.places place stamp) stamp (behind past events) found → found ≡ Some bytes
-  pub fails : (place : facts.Place) (stamp bytes : List ℕ) (events past : List Event) → facts.keeps place stamp bytes false events
+  pub fails : (place : facts.Place) (g now : G) → IsThere facts place g → (stamp bytes : List ℕ) (events past : List Event) → facts.keeps g stamp bytes false events now
       → (found : Option (List ℕ)) → MayFind (facts.places place stamp) stamp (behind past events) found → (found ≡ Some bytes) ⊎ MayFind (facts.places place stamp) stamp past found
   -- of two games that are found there each record is kept elsewhere
-  pub takes_apart : (place : facts.Place) (g : G) → facts.place g ≡ place → (stamp other : List ℕ) → IsToldAt facts place stamp
+  pub takes_apart : (place : facts.Place) (g now : G) → IsThere facts place g → (stamp other : List ℕ) → IsToldAt facts place stamp
       → IsToldAt facts place other → bytes_eq other stamp ≡ false
       → (result : Result (Option (List ℕ)) OpenGameError) (events past : List Event)
-      → facts.takes g other result events → StaysFound (facts.places place stamp) stamp past events
-  pub keeps_apart : (place : facts.Place) (stamp other bytes : List ℕ) → IsToldAt facts place stamp → IsToldAt facts place other
-      → bytes_eq other stamp ≡ false → (is_done : Bool) (events past : List Event)
-      → facts.keeps place other bytes is_done events → StaysFound (facts.places place stamp) stamp past events
-  pub commits : (place : facts.Place) (g : G) → facts.place g ≡ place
-      → (stamp : List ℕ) (is_done : Bool) (events past : List Event) → facts.commits g is_done events
+      → facts.takes g other result events now → StaysFound (facts.places place stamp) stamp past events
+  pub keeps_apart : (place : facts.Place) (g now : G) → IsThere facts place g → (stamp other bytes : List ℕ) → IsToldAt facts place stamp
+      → IsToldAt facts place other → bytes_eq other stamp ≡ false → (is_done : Bool) (events past : List Event)
+      → facts.keeps g other bytes is_done events now → StaysFound (facts.places place stamp) stamp past events
+  pub commits : (place : facts.Place) (g now : G) → IsThere facts place g
+      → (stamp : List ℕ) (told : Result (Unit {0}) Uncommitted) (events past : List Event) → facts.commits g told events now
       → StaysFound (facts.places place stamp) stamp past events
 
 -- ---- a game in a run
@@ -168,8 +169,8 @@ pub record FoundGame {G : Type 0} (facts : GamesFacts G) (place : facts.Place) (
 -- THE LAW: where records are put at once and are durable, each opening of a game is over what it left, and whatever a start may find is that
 abbrev pub GamesAreFound : {T P F K S L G : Type 0} → Outside T P F K S L → GamesFacts G → Type 0
 GamesAreFound {F} {G} o facts =
-    (most : ℕ) (form : LineForm) (texts : List (List ℕ)) (to : List Recipient) (old new : Server G F) (turns : List Turn) (stamp : List ℕ) (before : PlaceKeeper) (was : GameStatus PlaceKeeper) (past : List Event)
-    → InTurns o facts most form texts old turns new → AreToldAt facts stamp old → IsAt (game_at old stamp) was
+    (form : LineForm) (texts : List (List ℕ)) (to : List Recipient) (old new : Server G F) (turns : List Turn) (stamp : List ℕ) (before : PlaceKeeper) (was : GameStatus PlaceKeeper) (past : List Event)
+    → InTurns o facts form texts old turns new → AreToldAt facts stamp old → IsAt (game_at old stamp) was
     → IsDurableAfter (facts.places (facts.place old.shared.games) stamp) stamp past (run_events to turns)
     → IsFoundIn (facts.places (facts.place old.shared.games) stamp) stamp past before was
     → FoundGame facts (facts.place old.shared.games) (common old) stamp before was (heard_in_turns turns) (game_at new stamp) (behind past (run_events to turns))
@@ -217,17 +218,17 @@ module _ {T P F K S L G : Type 0} (o : Outside T P F K S L) (facts : GamesFacts 
   abbrev at_place : KeptAt
   at_place = facts.places place stamp
 
-  -- A run at this place, behind what happened before it. Its server begins with no game open. Premise: the game that is found under the stamp
-  -- is this one; and before and between these, and when it stopped, nothing else happened to the game's record.
+  -- A run at this place, behind what happened before it. Its server begins with no game open. Premise: whatever game was found under the stamp,
+  -- by events of this run, is this one; and before and between these, and when it stopped, nothing else happened to the game's record.
   pub record IsServedRun (past : List Event) (r : ServedRun G F) : Type 0 where
     pub there : facts.place r.old.shared.games ≡ place
     pub closed : (other : List ℕ) → open_at r.old other ≡ None
-    pub one : (game : GameConfig) (events : List Event) → facts.finds place stamp (Ok game) events → setup_of (common r.old) game.name.items game.start game.delay ≡ setup
-    pub most : ℕ
+    pub one : (game : GameConfig) (events : List Event) → facts.finds place stamp (Ok game) events → AllByRecursion (Contains (work_of r)) events
+        → setup_of (common r.old) game.name.items game.start game.delay ≡ setup
     pub form : LineForm
     pub texts : List (List ℕ)
     pub opens : HearsAll o facts r.old r.unasked r.begun
-    pub in_turns : InTurns o facts most form texts r.begun r.turns r.mid
+    pub in_turns : InTurns o facts form texts r.begun r.turns r.mid
     pub hears : HearsAll o facts r.mid r.heard r.new
     pub first_stays : StaysFound at_place stamp past r.first
     pub asked_stays : StaysFound at_place stamp (behind (behind past r.first) (flat_map made_of r.unasked)) r.asked

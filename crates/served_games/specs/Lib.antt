@@ -4,3 +4,6 @@ pub mod Lasting
 pub mod Durable
 pub mod Unasked
 pub mod OneGames
+pub mod FolderRuns
+pub mod FileHistories
+pub mod InOrder

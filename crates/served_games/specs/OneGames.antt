@@ -28,10 +28,9 @@ module _ {T P F K S L : Type 0} (o : Outside T P F K S L) (t : CommonView) (game
   pub record IsRunOfOne (past : List Event) (r : ServedRun OneGameView F) : Type 0 where
     pub new : IsNewServer t (record { at = one_place game stamp path; is_lost = false }) r.old
     pub begins : Begins o one_game_facts r.old r.unasked r.begun
-    pub most : ℕ
     pub form : LineForm
     pub texts : List (List ℕ)
-    pub in_turns : InTurns o one_game_facts most form texts r.begun r.turns r.mid
+    pub in_turns : InTurns o one_game_facts form texts r.begun r.turns r.mid
     pub hears : HearsAll o one_game_facts r.mid r.heard r.new
     pub first_stays : Stays past r.first
     pub asked_stays : Stays (behind (behind past r.first) (flat_map made_of r.unasked)) r.asked

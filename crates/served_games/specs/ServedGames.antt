@@ -14,20 +14,17 @@ use Rattle.arbiter_server.specs.Games.{CommonView, Fresh, GameStatus, Goes, IsNo
 use Rattle.arbiter_server.specs.Told.{line_words}
 use Rattle.arbiter_server.specs.declared.fault.OpenGameError.{OpenGameError}
 use Rattle.arbiter_server.specs.declared.games.GameConfig.{GameConfig}
-use Rattle.move_msg.specs.Heard.{heard_in}
 use Rattle.timeline.specs.Events.{Event}
 use Rattle.timeline.specs.Outsides.{Outside}
 use Rattle.game_folder.specs.Drafts.{DraftView}
 use Rattle.game_folder.specs.Holdings.{GamesFacts}
-use Rattle.game_server.specs.Datagrams.{HearsDatagram, was_open}
-use Rattle.game_server.specs.Fates.{Answered, Fate, Unopened, Unread as UnreadBytes, found_draft, is_lost_at}
+use Rattle.game_server.specs.Fates.{found_draft}
 use Rattle.game_server.specs.Printing.{LineForm}
 use Rattle.game_server.specs.Rounds.{Heard}
 use Rattle.game_server.specs.Runs.{Answers as AnswersRound, Deed, HearsNone, InTurns, Turn}
 use Rattle.game_server.specs.Seats.{common, open_at, seat_moment}
-use Rattle.game_server.specs.declared.seat.Reply.{Reply}
 use Rattle.game_server.specs.declared.server.Server.{Server}
-use Rattle.served_games.specs.PlaceKeepers.{Follows, PlaceKeeper, has_failed, has_put, place_keepers}
+use Rattle.served_games.specs.PlaceKeepers.{Follows, IsThere, PlaceKeeper, has_failed, has_put, place_keepers}
 
 -- ---- where a game is
 
@@ -86,22 +83,27 @@ AreOverLeft old (act ∷ acts) = OpensOverLeft old act × AreOverLeft (life_by o
 
 module _ {G : Type 0} (facts : GamesFacts G) (place : facts.Place) (stamp : List ℕ) where
   -- a record of the game is kept by these events, or that fails; or none is put
-  pub data PutsBy (before after : PlaceKeeper) (events : List Event) : Type 0 where
-    NothingPut : after ≡ before → events ≡ [] → PutsBy before after events
-    IsPut : (bytes : List ℕ) → facts.keeps place stamp bytes true events → after ≡ has_put before bytes → PutsBy before after events
-    PutFails : (bytes : List ℕ) → facts.keeps place stamp bytes false events → after ≡ has_failed before bytes → PutsBy before after events
+  pub data PutsBy (games : G) (before after : PlaceKeeper) (events : List Event) (now : G) : Type 0 where
+    NothingPut : after ≡ before → events ≡ [] → now ≡ games → PutsBy games before after events now
+    IsPut : (bytes : List ℕ) → facts.keeps games stamp bytes true events now → after ≡ has_put before bytes → PutsBy games before after events now
+    PutFails : (bytes : List ℕ) → facts.keeps games stamp bytes false events now → after ≡ has_failed before bytes → PutsBy games before after events now
 
   -- the game is looked for, its record is taken, and what opening an arbiter over it has to put is kept, or that fails
   pub record OpensBy (o : Opening PlaceKeeper) (events : List Event) : Type 0 where
     pub game : GameConfig
+    pub name : o.setup.name ≡ game.name.items
+    pub start : o.setup.start ≡ game.start
+    pub delay : o.setup.delay ≡ game.delay
     pub looked : List Event
     pub finds : facts.finds place stamp (Ok game) looked
     pub games : G
     pub there : facts.place games ≡ place
     pub taken : List Event
-    pub takes : facts.takes games stamp (Ok o.before.kept) taken
+    pub after : G
+    pub takes : facts.takes games stamp (Ok o.before.kept) taken after
     pub put : List Event
-    pub puts : PutsBy o.before o.now put
+    pub last : G
+    pub puts : PutsBy after o.before o.now put last
     pub are : events ≡ looked ++ (taken ++ put)
 
   -- where no arbiter of it is asked for: nothing is looked for, or it isn't found, or its record can't be had
@@ -109,13 +111,14 @@ module _ {G : Type 0} (facts : GamesFacts G) (place : facts.Place) (stamp : List
     NotLooked : events ≡ [] → LooksInVain events
     Looked : (result : Result GameConfig OpenGameError) → facts.finds place stamp result events → LooksInVain events
     NotTaken : (game : GameConfig) (looked : List Event) → facts.finds place stamp (Ok game) looked → (games : G) → facts.place games ≡ place
-        → (why : OpenGameError) (taken : List Event) → facts.takes games stamp (Err why) taken → events ≡ looked ++ taken → LooksInVain events
+        → (why : OpenGameError) (taken : List Event) (after : G) → facts.takes games stamp (Err why) taken after → events ≡ looked ++ taken → LooksInVain events
 
   -- an arbiter of which a put failed is down
   abbrev pub AnswersMake : GameStatus PlaceKeeper → Moment PlaceKeeper → List Event → Type 0
   AnswersMake Fresh after events = ⊥
   AnswersMake (Shut left) after events = ⊥
-  AnswersMake (Open at) after events = PutsBy at.keeper after.keeper events × (after.arbiter.is_down ≡ false → after.keeper.unkept ≡ None)
+  AnswersMake (Open at) after events =
+      (games now : G) × IsThere facts place games × PutsBy games at.keeper after.keeper events now × (after.arbiter.is_down ≡ false → after.keeper.unkept ≡ None)
 
   abbrev pub ClosesMake : GameStatus PlaceKeeper → PlaceKeeper → List Event → Type 0
   ClosesMake Fresh left events = ⊥
@@ -188,24 +191,12 @@ heard_by HearsNone = []
 abbrev pub heard_in_turns : List Turn → List Heard
 heard_in_turns turns = flat_map (λ t. heard_by t.deed) turns
 
--- what was to be put of a game wasn't kept
-abbrev pub is_lost : Fate → Bool
-is_lost (UnreadBytes fault) = false
-is_lost (Unopened stamp why) = false
-is_lost (Answered stamp e is_kept) = is_lost_at e is_kept
-
 module _ {T P F K S L G : Type 0} (o : Outside T P F K S L) (facts : GamesFacts G) where
-  -- a game whose record isn't kept is closed
-  abbrev pub LostAreClosed : Type 0
-  LostAreClosed =
-      (old new : Server G F) (datagram : List ℕ) (reply : Reply) (events : List Event) (h : HearsDatagram o facts old new datagram reply events)
-      → is_lost h.fate ≡ true → was_open new (heard_in datagram) ≡ None
-
   -- THE LAW: in a run of a server each game has its own acts, from where it was to where it is
   abbrev pub GamesArePlayed : Type 0
   GamesArePlayed =
-      (most : ℕ) (form : LineForm) (texts : List (List ℕ)) (old new : Server G F) (turns : List Turn) (stamp : List ℕ) (was : GameStatus PlaceKeeper)
-      → InTurns o facts most form texts old turns new → IsAt (game_at old stamp) was
+      (form : LineForm) (texts : List (List ℕ)) (old new : Server G F) (turns : List Turn) (stamp : List ℕ) (was : GameStatus PlaceKeeper)
+      → InTurns o facts form texts old turns new → IsAt (game_at old stamp) was
       → PlayedGame facts (facts.place old.shared.games) (common old) stamp was (heard_in_turns turns) (game_at new stamp)
 
 -- all acts in turn

@@ -3,6 +3,9 @@
 ghost use Rattle.game_folder.specs.FolderGames.{folder_games_facts};
 ghost use Rattle.game_folder.specs.OneGame.{one_game_facts};
 ghost use Rattle.served_games.specs.Durable.{GamesAreFound, KeepsAtOnce, RunsLast};
+ghost use Rattle.served_games.specs.FileHistories.{FilesAreDurable};
+ghost use Rattle.served_games.specs.FolderRuns.{FolderGamesKeepWhatTheyTold};
+ghost use Rattle.served_games.specs.InOrder.{StoreCommitsAreFound, StoreGamesAreTaken, StoreKeepsInOrder};
 ghost use Rattle.served_games.specs.Lasting.{EachLasts};
 ghost use Rattle.served_games.specs.OneGames.{OneGameKeepsWhatItTold};
 ghost use Rattle.served_games.specs.ServedGames.{GamesArePlayed, PlayedAreHosted};
@@ -54,6 +57,13 @@ pub fn folder_games_are_found<S: System>(_system: &S)
     ensures { GamesAreFound (S.outside _system.now) folder_games_facts }
 {}
 
+/// What a game of a folder told stays, over all runs of new servers of the folder, wherever each of them stopped. The premises are in the
+/// statement (`specs/FolderRuns.antt`): the game has its stamp by the tables of the servers; its own file has the game's text whenever it is
+/// read; and the file of its record is durable.
+pub fn folder_games_keep_what_they_told<S: System>(_system: &S)
+    ensures { FolderGamesKeepWhatTheyTold (S.outside _system.now) }
+{}
+
 /// So it is of one game, where its file is durable; and whatever a start may find behind any runs is a record in which all is that each answer
 /// told.
 pub fn one_game_lasts<S: System>(_system: &S)
@@ -65,4 +75,27 @@ pub fn one_game_lasts<S: System>(_system: &S)
 /// are in the statement (`specs/OneGames.antt`): the game has its stamp by the tables of its servers; and the file of its record is durable.
 pub fn one_game_keeps_what_it_told<S: System>(_system: &S)
     ensures { OneGameKeepsWhatItTold (S.outside _system.now) }
+{}
+
+/// The file of a record is durable, where each call at it does what `System` promises (`files::start`, `files::put`), a put in which the process
+/// stops leaves what was there or its bytes, and nobody else writes it.
+pub fn files_are_durable<S: System>(_system: &S)
+    ensures { FilesAreDurable (S.outside _system.now) }
+{}
+
+/// What is noted of games, and committed to a store, is kept in order, call by call: a taking finds what was put last, whether or not that is
+/// committed; behind a commit a start finds that too, and behind one that failed that or what it found before.
+pub fn store_games_keep_in_order<S: System>(_system: &S)
+    ensures { StoreKeepsInOrder (S.outside _system.now) }
+{}
+
+/// In a run over a store, where that is durable, each opening of a game is over what it left; and while more can be committed, what a taking may
+/// find is what the game keeps or left.
+pub fn store_games_are_taken<S: System>(_system: &S)
+    ensures { StoreGamesAreTaken (S.outside _system.now) }
+{}
+
+/// Behind a round whose commit to a store succeeded, whatever a start may find of a game there is what the game keeps or left.
+pub fn store_commits_are_found<S: System>(_system: &S)
+    ensures { StoreCommitsAreFound (S.outside _system.now) }
 {}

@@ -5,32 +5,45 @@
 //! (`PlaceKeeper`). A put that failed is the answer of an arbiter whose keeper failed. So the theorems over hosts are theorems over servers.
 //!
 //! A start finds what was put, committed or found last; behind a put or a commit that failed, that or what was there before (`MayFind`). That
-//! each start of the past found such is the one premise on files and stores (`IsDurable`).
+//! each start of the past found such is the one premise on files and stores (`IsDurable`). Of a file it follows from what `System` promises of
+//! a start and a put, where nobody else writes the file and the disk keeps what it took (`FilesAreDurable`).
 //!
-//! Inside: `laws`. In `proofs/`: `Carrying` (an answer over a draft as one over what is kept), `Opening`, `Going` (acts behind others),
-//! `Playing` (one datagram), `Running` (a run), `Telling` and `Lasting` (what was told, over acts and runs), `Finding` (what may be found behind
-//! acts), `Asides` (events that change nothing of it), `Following` (a run), `Enduring` (all runs); `Stamping` (stamps are bytes, and paths of two
-//! differ), `AtOnce` (files), `OneGames`.
+//! Inside: `laws`; `files`, what `System` promises of a call at a file, as a step of the file's history. In `proofs/`: `Carrying` (an answer over a
+//! draft as one over what is kept), `Opening`, `Going` (acts behind others), `Playing` (one datagram), `Running` (a run), `Telling` and `Lasting`
+//! (what was told, over acts and runs), `Finding` (what may be found behind acts), `Asides` (events that change nothing of it), `Following` (a
+//! run), `Enduring` (all runs); `Stamping` (stamps are bytes, and paths of two differ), `AtOnce` (files), `OneGames`, `FolderRuns`,
+//! `FileHistories`; `Reaching` and `InTurn` (what a datagram makes of the games), `InOrder` (a store), `Taking` (a run over it).
 //!
 //! Definitions, in reading order: `PlaceKeepers`, `ServedGames` (`GoesOn`, `PlaysAll`, `OpenedGame`), `Lasting` (`WhatWasToldLasts`), `Durable`
-//! (`MayFind`, `IsDurable`, `KeepsAtOnce`, `RunsLast`), `Unasked` (`Begins`), `OneGames` (`OneGameKeepsWhatItTold`).
+//! (`MayFind`, `IsDurable`, `KeepsAtOnce`, `RunsLast`), `Unasked` (`Begins`), `OneGames` (`OneGameKeepsWhatItTold`), `FolderRuns`
+//! (`FolderGamesKeepWhatTheyTold`), `FileHistories` (`FilesAreDurable`), `InOrder` (`KeepsInOrder`, `GamesAreTaken`, `CommitsAreFound`).
 //!
 //! - CLAIM: `laws::games_are_played`; `laws::played_are_hosted`: in a run each game has its own acts, from where it was to where it is; for each
 //!   datagram of the game they have its reply, and the events that were made for it. They go on from one another as those of a host, where each
-//!   opening is over what was left.
+//!   opening is over what was left. A game that memory was refused to keep open was opened, and closed at once; the reply is that of one that
+//!   isn't open.
 //! - CLAIM: `laws::games_are_found`: where records are put at once and are durable, each opening is over what was left, and whatever a start may
 //!   find behind a run is what the game keeps or left.
 //! - CLAIM: `laws::folder_games_keep_at_once`, `one_game_keeps_at_once`: the games of a folder, and one game, put each record in its file at once;
 //!   so each opening in a run is over what was left (`folder_games_are_found`; `one_game_lasts`, clause `found`).
 //! - CLAIM: `laws::what_was_told_lasts`; `laws::runs_last`: after runs of one setup, wherever each of them stopped, whatever a start finds of a
 //!   game is a record in which all is that each answer told: as many moves as were acknowledged, the same ones, and the verdict at its ply.
-//!   The first says so of acts, over records in files and in stores; the second of events, where records are put at once, of places that find
-//!   one game under a stamp (`one` of `IsServedRun`): so of `OneGame`, and not of a folder, which may find any game that a text spells.
+//!   The first says so of acts, over records in files and in stores; the second of events, where records are put at once, of runs in which one
+//!   game was found under the stamp (`one` of `IsServedRun`).
 //! - CLAIM: `laws::one_game_keeps_what_it_told`: what one game told stays, over all runs of new servers of it, each of which opens it unasked,
 //!   and wherever each of them stopped, where the file of its record is durable.
+//! - CLAIM: `laws::folder_games_keep_what_they_told`: so does what a game of a folder told, over all runs of new servers of the folder, where its
+//!   own file has the game's text whenever it is read, and the file of its record is durable.
+//! - CLAIM: `laws::files_are_durable`; `files::start`, `files::put`: a file is durable, where each call at it does what `System` promises.
+//! - CLAIM: `laws::store_games_keep_in_order`; `laws::store_games_are_taken`: records that are noted, and committed to a store, are kept in order,
+//!   call by call; so in a run, where the store is durable, each opening is over what was left, and while more can be committed, what a taking
+//!   may find is what the game keeps or left, whether or not that is committed.
+//! - CLAIM: `laws::store_commits_are_found`: behind a round whose commit to a store succeeded, whatever a start may find of a game is what it keeps
+//!   or left.
 //!
-//! Not said: of events in a store, that what was told lasts (no clause ties what is taken to what was noted last); that a file as `System` has
-//! it is durable (`IsDurable` is a premise, on which links of docs/PROVED.md on files bear).
+//! Not said: over all runs of a store, that what was told lasts. Behind a commit that was broken off a start finds the whole batch or what was
+//! there before, so which of a run's acts count is known only by what is found later.
 #![tactic(auto)]
 
+pub mod files;
 pub mod laws;

@@ -43,7 +43,6 @@ use Rattle.served_games.specs.ServedGames.{AreOverLeft, IsAt, OpenedGame, acts_i
 use Rattle.served_games.specs.Unasked.{Begins, WithNone, WithOne}
 use Rattle.served_games.proofs.Enduring.{closed_at, runs_last}
 use Rattle.served_games.proofs.Going.{Acts, Life, alone, goes_join, opening_on, over_first, over_rest, own_join, playing_on, plays_join}
-use Rattle.served_games.proofs.Lost.{lost_are_closed}
 use Rattle.served_games.proofs.OneGames.{begun_hears}
 use Rattle.served_games.proofs.Running.{all_played, before, games_are_played, stays_all, stays_on, turns_stay}
 use Rattle.theorems.specs.Interleavings.{IsHostOf, IsRunOfHost}
@@ -207,7 +206,7 @@ module _ {G : Type 0} (facts : GamesFacts G) (place : facts.Place) (t : CommonVi
   -- ---- what is requested
 
   module _ {F : Type 0} (unasked : List Heard) (requests : AreRequests unasked) (begun : Server G F) (heard : List Heard) where
-    asks_so : (k : Option (Seat F)) (life : Life) → IsAt (option_map (seat_moment begun.tables) k) life → request_of begun.tables k ≡ requested_in life
+    asks_so : (k : Option (Seat F)) (life : Life) → IsAt (option_map (seat_moment begun.shared.tables) k) life → request_of begun.shared.tables k ≡ requested_in life
     asks_so None Fresh at = refl
     asks_so None (Shut left) at = refl
     asks_so None (Open now) at = absurd at
@@ -236,26 +235,24 @@ pub served_are_hosted : {T P F K S L G : Type 0} (o : Outside T P F K S L) (fact
 served_are_hosted o facts game who first old new unasked most n form texts to earlier later result none of begins run =
     let hears = begun_hears o facts first old unasked begins in
     let requests = begun_requests o facts first old unasked begins in
-    let closes = lost_are_closed o facts in
-    let p = all_played o facts closes game.stamp first old Fresh unasked hears (closed_at first (open_at first game.stamp) (none game.stamp)) in
+    let p = all_played o facts game.stamp first old Fresh unasked hears (closed_at first (open_at first game.stamp) (none game.stamp)) in
     let turns = with_last run.turns run.last in
-    let q = before o facts closes game.stamp first old p.life (heard_in_turns turns) (game_at new game.stamp) (stays_all o facts closes game.stamp first old unasked hears)
-    (games_are_played o facts closes most form texts old new turns game.stamp p.life run.in_turn p.at) in
-    goes_as facts (facts.place first.games) (common first) game who of unasked requests old (heard_in_turns turns)
+    let q = before o facts game.stamp first old p.life (heard_in_turns turns) (game_at new game.stamp) (stays_all o facts game.stamp first old unasked hears)
+    (games_are_played o facts form texts old new turns game.stamp p.life run.in_turn p.at) in
+    goes_as facts (facts.place first.shared.games) (common first) game who of unasked requests old (heard_in_turns turns)
     (record { first = p.each; mid = p.life; opens = p.plays; at = p.at; each = q.each; life = q.life; plays = q.plays })
 
 pub fronts_are_hosted : {T P F K S L G : Type 0} (o : Outside T P F K S L) (facts : GamesFacts G) → ServedFrontsAreHosted o facts
-fronts_are_hosted o facts game who first old mid new unasked late turns most form texts none of begins in_turns hears_late =
+fronts_are_hosted o facts game who first old mid new unasked late turns form texts none of begins in_turns hears_late =
     let hears = begun_hears o facts first old unasked begins in
     let requests = begun_requests o facts first old unasked begins in
-    let closes = lost_are_closed o facts in
-    let place = facts.place first.games in
+    let place = facts.place first.shared.games in
     let t = common first in
-    let p = all_played o facts closes game.stamp first old Fresh unasked hears (closed_at first (open_at first game.stamp) (none game.stamp)) in
-    let s = stays_all o facts closes game.stamp first old unasked hears in
-    let q = before o facts closes game.stamp first old p.life (heard_in_turns turns) (game_at mid game.stamp) s (games_are_played o facts closes most form texts old mid turns game.stamp p.life in_turns p.at) in
-    let r = before o facts closes game.stamp first mid q.life late (game_at new game.stamp) (stays_on o facts first old mid s (turns_stay o facts closes game.stamp most form texts old mid turns in_turns))
-    (all_played o facts closes game.stamp mid new q.life late hears_late q.at) in
+    let p = all_played o facts game.stamp first old Fresh unasked hears (closed_at first (open_at first game.stamp) (none game.stamp)) in
+    let s = stays_all o facts game.stamp first old unasked hears in
+    let q = before o facts game.stamp first old p.life (heard_in_turns turns) (game_at mid game.stamp) s (games_are_played o facts form texts old mid turns game.stamp p.life in_turns p.at) in
+    let r = before o facts game.stamp first mid q.life late (game_at new game.stamp) (stays_on o facts first old mid s (turns_stay o facts game.stamp form texts old mid turns in_turns))
+    (all_played o facts game.stamp mid new q.life late hears_late q.at) in
     goes_as facts place t game who of unasked requests old (heard_in_turns turns ++ late)
     (record { first = p.each; mid = p.life; opens = p.plays; at = p.at; each = q.each ++ r.each; life = r.life; plays = plays_join facts place t game.stamp p.life q.life r.life (heard_in_turns turns) late q.each r.each q.plays r.plays })
 
@@ -271,4 +268,4 @@ each_hosted o facts place game who setup past (r ∷ rs) of lasts = (
 
 pub runs_are_hosted : {T P F K S L G : Type 0} (o : Outside T P F K S L) (facts : GamesFacts G) → KeepsAtOnce facts → ServedRunsAreHosted o facts
 runs_are_hosted o facts at_once game who place setup past first runs mine known are of durable =
-    each_hosted o facts place game who setup (behind past (events_of_all runs)) runs of (runs_last o facts (lost_are_closed o facts) at_once place game.stamp setup past first runs mine known are durable)
+    each_hosted o facts place game who setup (behind past (events_of_all runs)) runs of (runs_last o facts at_once place game.stamp setup past first runs mine known are durable)

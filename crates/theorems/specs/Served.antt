@@ -90,18 +90,18 @@ ServedAreHosted {T} {F} {G} o facts =
     → IsHostOf game who (common first)
     → Begins o facts first unasked old
     → (run : Serves o facts most form texts n to old new before after result)
-    → GoesAsHost facts (facts.place first.games) (common first) game who unasked old (heard_in_turns (with_last run.turns run.last))
+    → GoesAsHost facts (facts.place first.shared.games) (common first) game who unasked old (heard_in_turns (with_last run.turns run.last))
 
 -- THE LAW: And so is each run as far as it went, wherever it stopped: its turns, and the datagrams that were heard behind them.
 abbrev pub ServedFrontsAreHosted : {T P F K S L G : Type 0} → Outside T P F K S L → GamesFacts G → Type 0
 ServedFrontsAreHosted {F} {G} o facts =
-    (game : Judged) (who : ArbiterId) (first old mid new : Server G F) (unasked heard : List Heard) (turns : List Turn) (most : ℕ) (form : LineForm) (texts : List (List ℕ))
+    (game : Judged) (who : ArbiterId) (first old mid new : Server G F) (unasked heard : List Heard) (turns : List Turn) (form : LineForm) (texts : List (List ℕ))
     → ((stamp : List ℕ) → open_at first stamp ≡ None)
     → IsHostOf game who (common first)
     → Begins o facts first unasked old
-    → InTurns o facts most form texts old turns mid
+    → InTurns o facts form texts old turns mid
     → HearsAll o facts mid heard new
-    → GoesAsHost facts (facts.place first.games) (common first) game who unasked old (heard_in_turns turns ++ heard)
+    → GoesAsHost facts (facts.place first.shared.games) (common first) game who unasked old (heard_in_turns turns ++ heard)
 
 -- a run as far as it went, of a host
 pub record IsRunAt {F G : Type 0} (game : Judged) (who : ArbiterId) (r : ServedRun G F) : Type 0 where

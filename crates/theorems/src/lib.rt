@@ -34,7 +34,8 @@
 //!   `listen_beside_a_host`: so two of them, and one on either side of a host, come to a world.
 //! - CLAIM: `served_are_hosted`: what a run of a server of games (`game_server`) does of a game is what a run of a host does, where each opening is
 //!   over what was left; so of one that has opened the game unasked, and may have asked for moves, but for the answer by which it was
-//!   opened, which nobody gets. `served_game_is_hosted`: over the file of one game, where it is durable, each opening is so, wherever the run stopped.
+//!   opened, which nobody gets. `served_game_is_hosted`; `served_folder_is_hosted`: over the file of one game, and over those of a folder, where
+//!   they are durable, each opening is so, wherever the run stopped.
 //!   `served_are_worlds`; `served_beside_a_host`: so two of them, and one on either side of a host, come to a world.
 //! - CLAIM: `served_are_woven`: two servers, each over files, come to a net as `hosts_are_worlds` asks, by where each opening begins: that
 //!   keepers keep, and what a closing leaves, are no premises.
@@ -81,7 +82,7 @@ pub use recording::{MadeAt, Recorded, Recording};
 pub use seals::no_tag_no_forgery;
 pub use served::{
     served_are_hosted, served_are_worlds, served_are_woven, served_beside_a_host,
-    served_game_is_hosted,
+    served_folder_is_hosted, served_game_is_hosted,
 };
 pub use sources::{sends_the_log, sources_tell_the_truth};
 pub use store_hosts::{

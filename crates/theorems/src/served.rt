@@ -1,6 +1,7 @@
 //! Runs of a server of games over one timeline, as those of hosts.
 
 ghost use Rattle.arbiter_server.specs.Folders.{keepers};
+ghost use Rattle.game_folder.specs.FolderGames.{folder_games_facts};
 ghost use Rattle.game_folder.specs.OneGame.{one_game_facts};
 ghost use Rattle.theorems.specs.ServedWeaves.{ServedAreWoven};
 ghost use Rattle.theorems.specs.Served.{ServedAreHosted, ServedAreWorlds, ServedBesideHost, ServedFrontsAreHosted, ServedRunsAreHosted};
@@ -18,6 +19,11 @@ pub fn served_are_hosted<S: System, G: game_folder::Games<S>>(_system: &S)
 /// a host.
 pub fn served_game_is_hosted<S: System>(_system: &S)
     ensures { ServedRunsAreHosted (S.outside _system.now) one_game_facts }
+{}
+
+/// So is each run of a folder's server, of a game whose own file tells this game whenever it is read, and the file of whose record is durable.
+pub fn served_folder_is_hosted<S: System>(_system: &S)
+    ensures { ServedRunsAreHosted (S.outside _system.now) folder_games_facts }
 {}
 
 /// Two servers of one game, each over places of its own, come to what a schedule comes to, in whichever order their acts come and however often
