@@ -1,5 +1,5 @@
 -- Records that are taken from files and put in them.
-use Rattle.std.proofs.Common.{◌≡◌, ◌∙◌, inl, inr, ℕ, true, List, [], ◌∷◌, Option, Some, None, refl, sym, ap, subst, arith, IsOk}
+use Rattle.std.proofs.Common.{◌≡◌, ◌∙◌, inl, inr, ℕ, true, List, [], ◌∷◌, Option, Some, None, refl, sym, ap, subst, arith, IsOk, false}
 use Rattle.std.specs.List.{Contains}
 use Rattle.std.specs.Prelude.{Result, Ok, Err, IfOk, IsSome, OnOk, option_map}
 use Rattle.arbiter_server.specs.declared.fault.OpenGameError.{OpenGameError}
@@ -10,15 +10,29 @@ use Rattle.timeline.specs.Events.{Event, FileOpened, Found, Put, is_done}
 use Rattle.timeline.specs.Outsides.{Outside}
 use Rattle.game_folder.specs.Holdings.{GamesFacts, IsKeptIn, IsTaken, KeepsGame, SendsNothing, StaysNoted, TakesGame, kept_of, known}
 use Rattle.game_folder.specs.Places.{InFile, InStore, KeptAt, WasKept, WasPut}
-use Rattle.game_folder.specs.RecordFiles.{HadNoRoom, IsFiledAt, NotOpened, PutsFile, Started, StartsFile, TakesFile, TakesFromFile, puts_in_file, started}
+use Rattle.game_folder.specs.RecordFiles.{IsKnownOfFile, StartGives, HadNoRoom, IsFiledAt, NotOpened, PutsFile, Started, StartsFile, TakesFile, TakesFromFile, puts_in_file, started}
 use Rattle.game_folder.specs.declared.games.KeptGame.{KeptGame}
+
+-- nothing happened, of which nothing is known
+pub known_nothing : {T P F K S L : Type 0} (o : Outside T P F K S L) (path : List ℕ) → IsKnownOfFile o path []
+known_nothing o path = record { opened = λ is. absurd (let wrong : [] ≡ FileOpened path false ∷ [] = is in cc); started = λ got is. absurd (let wrong : [] ≡ FileOpened path true ∷ Found path got ∷ [] = is in cc) }
+
+-- the file wasn't opened
+pub known_closed : {T P F K S L : Type 0} (o : Outside T P F K S L) (path : List ℕ) → o.takes_memory path → IsKnownOfFile o path (FileOpened path false ∷ [])
+known_closed o path memory = record { opened = λ is. memory; started = λ got is. absurd (let wrong : FileOpened path false ∷ [] ≡ FileOpened path true ∷ Found path got ∷ [] = is in cc) }
+
+known_start : {T P F K S L : Type 0} (o : Outside T P F K S L) (path : List ℕ) (got : Result (Option (List ℕ)) ReadFault) (rest : List Event) → rest ≡ Found path got ∷ [] → StartGives o path got → IsKnownOfFile o path (FileOpened path true ∷ rest)
+known_start o path got rest is gives = record {
+  opened = λ same. absurd (let wrong : FileOpened path true ∷ rest ≡ FileOpened path false ∷ [] = same in cc);
+  started = λ found same. subst (StartGives o path) (let e : FileOpened path true ∷ rest ≡ FileOpened path true ∷ Found path found ∷ [] = same in let mine : rest ≡ Found path got ∷ [] = is in cc) gives;
+}
 
 -- the file was opened, and then a start read it
 pub opened_then : {T P F K S L : Type 0} (o : Outside T P F K S L) (path at stamp : List ℕ) (result : Result (KeptGame F) OpenGameError) → at ≡ path
     → (rest : List Event) → StartsFile o at stamp result rest → TakesFile o path stamp result (FileOpened path true ∷ rest)
 opened_then o path at stamp result is rest s =
     subst (λ (p : List ℕ). TakesFile o p stamp result (FileOpened p true ∷ rest)) is
-    (record { taken = Started s.got s.taken (ap (λ (es : List Event). FileOpened at true ∷ es) s.found); ok = s.ok })
+    (record { taken = Started s.got s.taken (ap (λ (es : List Event). FileOpened at true ∷ es) s.found); known = known_start o at s.got rest s.found s.gives; ok = s.ok })
 
 -- nothing is sent where a record is taken from a file
 pub taking_sends_nothing : (path : List ℕ) (result : Result (Option (List ℕ)) OpenGameError) (events : List Event) → TakesFromFile path result events → SendsNothing events
@@ -61,14 +75,14 @@ module _ {T P F K S L : Type 0} (o : Outside T P F K S L) where
   module _ {G : Type 0} (facts : GamesFacts G) where
     -- a game's record is taken from a file
     pub takes_by_file : (g : G) (path stamp : List ℕ) (result : Result (KeptGame F) OpenGameError) (events : List Event) → facts.places (facts.place g) stamp ≡ InFile path
-        → ((got : Result (Option (List ℕ)) OpenGameError) → TakesFromFile path got events → facts.takes g stamp got events g)
+        → ((got : Result (Option (List ℕ)) OpenGameError) → TakesFromFile path got events → IsKnownOfFile o path events → facts.takes g stamp got events g)
         → (p : List ℕ) → p ≡ path → TakesFile o p stamp result events → TakesGame facts o g g stamp result events
     takes_by_file g path stamp result events at takes p same taken =
         let t = subst (λ (q : List ℕ). TakesFile o q stamp result events) same taken in
         record {
           still = record { quiet = taking_sends_nothing path (kept_of result) events t.taken; place = refl };
           noted = λ s b n. n;
-          taken = takes (kept_of result) t.taken;
+          taken = takes (kept_of result) t.taken t.known;
           ok = by_result result t.taken t.ok;
         }
       where

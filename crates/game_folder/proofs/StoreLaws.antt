@@ -10,7 +10,7 @@ use Rattle.arbiter_server.specs.declared.fault.OpenGameError.TheVariants as unop
 use Rattle.arbiter_server.specs.declared.fault.Uncommitted.{Uncommitted}
 use Rattle.arbiter_server.specs.declared.fault.Uncommitted.TheVariants as uncommitted
 use Rattle.std.specs.declared.alloc.Global.{Global}
-use Rattle.system_io.specs.Records.{GivesBack, StoreFacts, entry_record}
+use Rattle.system_io.specs.Records.{IsSettled, GivesBack, StoreFacts, entry_record}
 use Rattle.system_io.specs.declared.record_store.PutFault.{PutFault}
 use Rattle.system_io.specs.declared.record_store.PutFault.TheVariants.{OutOfMemory}
 use Rattle.system_io.specs.declared.record_store.Entry.{Entry}
@@ -19,7 +19,7 @@ use Rattle.timeline.specs.Outsides.{Outside}
 use Rattle.game_folder.specs.Drafts.{settled}
 use Rattle.game_folder.specs.Holdings.{CommitsGames, IsKeptIn, IsTaken, KeepsGame, SendsNothing, StaysNoted, TakesGame, kept_of, known, without_value}
 use Rattle.game_folder.specs.Places.{InFile, InStore, WasKept}
-use Rattle.game_folder.specs.StoreGames.{CommitsNoted, CouldNot, HadNoRoom, HasAll, HadNone, IsInStore, HasNoted, LacksMemory, LeavesNoted, LooksUpRecord, LosesStore, MayGive, Notes, NotesBytes, StoredGames, TakesFromStore, WasNoted, WasRefused, WasSought, its_bytes, given_record, kept_bytes, last_noted, loss_told, store_games_facts}
+use Rattle.game_folder.specs.StoreGames.{CommitsNoted, CouldNot, HadNoRoom, HasAll, HadNone, IsInStore, HasNoted, LacksMemory, LeavesNoted, LooksUpRecord, LosesStore, MayGive, Notes, NotesBytes, StoredGames, Stores, TakesFromStore, WasNoted, WasRefused, WasSought, its_bytes, given_record, kept_bytes, last_noted, loss_told, store_games_facts}
 use Rattle.game_folder.specs.declared.games.KeptGame.{KeptGame}
 use Rattle.game_folder.specs.declared.store_games.Loss.{Loss}
 use Rattle.game_folder.specs.declared.store_games.Loss.TheVariants.{OfMemory, OfStore}
@@ -98,6 +98,10 @@ is_filled_list len entries of is none = absurd (let wrong : true ≡ false = sym
 pub given_back : (s : StoreFacts) (entries : List Entry) (fault : PutFault) (batch : Vec Entry Global) → fault ≡ OutOfMemory batch → GivesBack s entries fault → batch.items ≡ entries
 given_back s entries fault batch is back = (subst (GivesBack s entries) is back).1
 
+-- and a start finds what the store has
+pub given_settled : (s : StoreFacts) (entries : List Entry) (fault : PutFault) (batch : Vec Entry Global) → fault ≡ OutOfMemory batch → GivesBack s entries fault → IsSettled s
+given_settled s entries fault batch is back = (subst (GivesBack s entries) is back).0
+
 pub noted_same : {S : Type 0} (old new : StoredGames S) → new.loss ≡ old.loss → new.noted ≡ old.noted → (stamp bytes : List ℕ) → HasNoted old stamp bytes → HasNoted new stamp bytes
 noted_same old new loss noted stamp bytes (inl lost) = inl (subst (λ (l : Option Loss). IsSome l) (sym loss) lost)
 noted_same old new loss noted stamp bytes (inr e) = inr (e.0, subst (λ (es : List Entry). Contains es e.0) (sym noted) e.1, e.2, e.3)
@@ -146,20 +150,20 @@ kept_by_commit path g (Ok x) events (LosesStore may why two) = absurd (let wrong
 
 -- what is noted is committed, or that fails
 pub commits_noted : {T P F K S L : Type 0} (o : Outside T P F K S L) (old new : StoredGames S) (told : Result (Unit {0}) Uncommitted) (events : List Event) → o.store_path new.store ≡ o.store_path old.store → new.folder ≡ old.folder
-    → OnErr told ((stamp bytes : List ℕ) → HasNoted old stamp bytes → HasNoted new stamp bytes) → LeavesNoted told old new → CommitsNoted (o.store_path old.store) old told events → CommitsGames (store_games_facts o) old new told events
-commits_noted o old new told events path folder left leaves c = record {
+    → OnErr told ((stamp bytes : List ℕ) → HasNoted old stamp bytes → HasNoted new stamp bytes) → LeavesNoted told old new → Stores o told old new → CommitsNoted (o.store_path old.store) old told events → CommitsGames (store_games_facts o) old new told events
+commits_noted o old new told events path folder left leaves stores c = record {
   still = record {
     quiet = committing_sends_nothing (o.store_path old.store) old told events c;
     place = ap (λ (f : List ℕ). record { folder = f; store_path = o.store_path new.store }) folder ∙ ap (λ (p : List ℕ). record { folder = old.folder; store_path = p }) path;
   };
-  done = by told c leaves;
+  done = by told c leaves stores;
   kept = kept_by_commit (o.store_path old.store) old told events c;
   left = left;
 }
   where
-    by : (r : Result (Unit {0}) Uncommitted) → CommitsNoted (o.store_path old.store) old r events → LeavesNoted r old new → CommitsNoted (o.store_path old.store) old (without_value r) events × LeavesNoted (without_value r) old new
-    by (Ok x) h l = (h, l)
-    by (Err why) h l = (h, l)
+    by : (r : Result (Unit {0}) Uncommitted) → CommitsNoted (o.store_path old.store) old r events → LeavesNoted r old new → Stores o r old new → CommitsNoted (o.store_path old.store) old (without_value r) events × LeavesNoted (without_value r) old new × Stores o (without_value r) old new
+    by (Ok x) h l s = (h, l, record { all = s.all; same = s.same; settled = s.settled })
+    by (Err why) h l s = (h, l, record { all = s.all; same = s.same; settled = s.settled })
 
 -- ---- how a record is taken
 
@@ -180,14 +184,18 @@ module _ {T P F K S L : Type 0} (o : Outside T P F K S L) (g : StoredGames S) (s
       inr (inr (subst (λ (es : List Event). Contains es (RecordSought (o.store_path g.store) stamp (Some bytes))) (sym (one ∙ ap (λ (x : Option (List ℕ)). RecordSought (o.store_path g.store) stamp x ∷ []) (sym (given_value (Some bytes) got why)))) (0, omega arith, refl)))
 
   -- a record was taken, or not
-  pub takes_stored : (result : Result (KeptGame F) OpenGameError) (events : List Event) → TakesFromStore (o.store_path g.store) g stamp (kept_of result) events → IfOk result (IsInStore stamp) → TakesGame (store_games_facts o) o g g stamp result events
-  takes_stored result events taken ok = record {
+  pub takes_stored : (result : Result (KeptGame F) OpenGameError) (events : List Event) → TakesFromStore (o.store_path g.store) g stamp (kept_of result) events → IfOk result (IsInStore stamp) → IfOk result (λ game. game.draft.kept ≡ kept_bytes o g stamp) → TakesGame (store_games_facts o) o g g stamp result events
+  takes_stored result events taken ok gives = record {
     still = record { quiet = taking_sends_nothing (o.store_path g.store) g stamp (kept_of result) events taken; place = refl };
     noted = λ s b n. n;
-    taken = (taken, refl);
+    taken = (taken, refl, given result gives);
     ok = by_result result taken ok;
   }
     where
+      given : (r : Result (KeptGame F) OpenGameError) → IfOk r (λ game. game.draft.kept ≡ kept_bytes o g stamp) → IfOk (kept_of r) (λ kept. kept ≡ kept_bytes o g stamp)
+      given (Ok game) h = h
+      given (Err why) h = tt
+
       by_result : (r : Result (KeptGame F) OpenGameError) → TakesFromStore (o.store_path g.store) g stamp (kept_of r) events → IfOk r (IsInStore stamp) → IfOk r (IsTaken (store_games_facts o) o g stamp events)
       by_result (Err why) took is = tt
       by_result (Ok game) took is = record {

@@ -1,7 +1,7 @@
 -- Games whose files are in a folder, each with a file of its record beside it (this project's own).
 use Rattle.std.specs.Prelude.{◌≡◌, ◌≤◌, ◌⊎◌, ℕ, List, [], ◌∷◌, Result, Ok, Err, IfOk, length}
 use Rattle.arbiter_server.specs.GameFiles.{IsFirstGameFault, SpellsGame, game_as_told, line_number}
-use Rattle.arbiter_server.specs.GameFolders.{game_path, kept_path, most_game_bytes}
+use Rattle.arbiter_server.specs.GameFolders.{HasGame, game_path, kept_path, most_game_bytes}
 use Rattle.arbiter_server.specs.declared.fault.OpenGameError.{OpenGameError}
 use Rattle.arbiter_server.specs.declared.fault.OpenGameError.TheVariants as unopened
 use Rattle.arbiter_server.specs.declared.game_lines.GameFileFault.{GameFileFault}
@@ -10,9 +10,10 @@ use Rattle.system_io.specs.Disks.{AtFile, DiskFacts, HasMore}
 use Rattle.system_io.specs.declared.reading.ReadFault.{ReadFault}
 use Rattle.system_io.specs.declared.reading.ReadFault.TheVariants as read
 use Rattle.timeline.specs.Events.{Event, FileSought}
+use Rattle.timeline.specs.Outsides.{Outside}
 use Rattle.game_folder.specs.Holdings.{GamesFacts}
 use Rattle.game_folder.specs.Places.{InFile}
-use Rattle.game_folder.specs.RecordFiles.{TakesFromFile, puts_in_file}
+use Rattle.game_folder.specs.RecordFiles.{IsKnownOfFile, TakesFromFile, puts_in_file}
 use Rattle.game_folder.specs.declared.folder_games.FolderGames.{FolderGames}
 
 -- what is told of a game by what was read of its file: the game that the bytes spell, or the first line at fault
@@ -37,15 +38,20 @@ LacksFile disk folder stamp (unopened.BadGame line) =
 LacksFile disk folder stamp unopened.OutOfMemory = Unit {0}
 LacksFile disk folder stamp _ = ⊥
 
+-- the game that is found stands in its file on this disk; or the folder tells none there, for this reason
+abbrev pub StandsOn : DiskFacts → List ℕ → List ℕ → Result GameConfig OpenGameError → Type 0
+StandsOn disk folder stamp (Ok game) = HasGame disk folder stamp (game_as_told game.name.items game.start game.delay)
+StandsOn disk folder stamp (Err why) = LacksFile disk folder stamp why
+
 -- all that is known of the games of a folder; nothing is noted, and a commit does nothing
-abbrev pub folder_games_facts : GamesFacts FolderGames
-folder_games_facts = record {
+abbrev pub folder_games_facts : {T P F K S L : Type 0} → Outside T P F K S L → GamesFacts FolderGames
+folder_games_facts o = record {
   Place = List ℕ;
   place = λ g. g.folder.now;
   places = λ folder stamp. InFile (kept_path folder stamp);
   noted = λ g stamp bytes. ⊥;
-  finds = FindsInFolder;
-  takes = λ g stamp result events new. TakesFromFile (kept_path g.folder.now stamp) result events × (new ≡ g);
+  finds = λ folder stamp result events. FindsInFolder folder stamp result events × StandsOn o.disk folder stamp result;
+  takes = λ g stamp result events new. TakesFromFile (kept_path g.folder.now stamp) result events × (new ≡ g) × IsKnownOfFile o (kept_path g.folder.now stamp) events;
   keeps = λ g stamp bytes done events new. (events ≡ puts_in_file (kept_path g.folder.now stamp) bytes done) × (new ≡ g);
   commits = λ g told events new. (told ≡ Ok tt) × (events ≡ []) × (new ≡ g);
 }

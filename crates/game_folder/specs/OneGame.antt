@@ -7,7 +7,8 @@ use Rattle.arbiter_server.specs.declared.fault.Uncommitted.TheVariants as uncomm
 use Rattle.arbiter_server.specs.declared.games.GameConfig.{GameConfig}
 use Rattle.game_folder.specs.Holdings.{GamesFacts}
 use Rattle.game_folder.specs.Places.{one_file}
-use Rattle.game_folder.specs.RecordFiles.{TakesFromFile, puts_in_file}
+use Rattle.timeline.specs.Outsides.{Outside}
+use Rattle.game_folder.specs.RecordFiles.{IsKnownOfFile, TakesFromFile, puts_in_file}
 
 -- the game, its stamp, and the path of the file of its record
 pub record OnePlace : Type 0 where
@@ -26,14 +27,14 @@ FindsByStamp at stamp (Ok game) = (stamp ≡ at.stamp) × (game_as_told game.nam
 FindsByStamp at stamp (Err why) = (stamp ≢ at.stamp) × (why ≡ unopened.NoGame)
 
 -- all that is known of it: after a put that failed no commit succeeds
-abbrev pub one_game_facts : GamesFacts OneGameView
-one_game_facts = record {
+abbrev pub one_game_facts : {T P F K S L : Type 0} → Outside T P F K S L → GamesFacts OneGameView
+one_game_facts o = record {
   Place = OnePlace;
   place = λ g. g.at;
   places = λ at. one_file at.path;
   noted = λ g stamp bytes. g.is_lost ≡ true;
   finds = λ at stamp result events. FindsByStamp at stamp result × (events ≡ []);
-  takes = λ g stamp result events new. TakesFromFile g.at.path result events × (new ≡ g);
+  takes = λ g stamp result events new. TakesFromFile g.at.path result events × (new ≡ g) × IsKnownOfFile o g.at.path events;
   keeps = λ g stamp bytes done events new. (events ≡ puts_in_file g.at.path bytes done) × (new ≡ record g { is_lost = g.is_lost || not done });
   commits = λ g told events new. (told ≡ cond g.is_lost (Err uncommitted.StoreLost) (Ok tt)) × (events ≡ []) × (new ≡ g);
 }

@@ -2,6 +2,7 @@
 use Rattle.std.specs.Prelude.{◌≡◌, ℕ, Bool, true, false, List, [], ◌∷◌, Option, Some, None, Result, Ok, Err, IfOk, IsOk, option_map}
 use Rattle.arbiter_server.specs.declared.fault.OpenGameError.{OpenGameError}
 use Rattle.arbiter_server.specs.declared.fault.OpenGameError.TheVariants as unopened
+use Rattle.system_io.specs.KeptFiles.{CannotStart, IsOneOfFound}
 use Rattle.system_io.specs.declared.reading.ReadFault.{ReadFault}
 use Rattle.system_io.specs.declared.reading.ReadFault.TheVariants as read
 use Rattle.timeline.specs.Events.{Event, FileOpened, Found, Put, is_done}
@@ -28,6 +29,16 @@ abbrev pub puts_in_file : List ℕ → List ℕ → Bool → List Event
 puts_in_file path bytes done = Put path bytes done ∷ []
 
 module _ {T P F K S L : Type 0} (o : Outside T P F K S L) where
+  -- a start over a file at this path comes to this: what it reads is one of what every start is claimed to be among; or it fails for a cause
+  abbrev pub StartGives : List ℕ → Result (Option (List ℕ)) ReadFault → Type 0
+  StartGives path (Ok got) = (file : F) × (o.path file ≡ path) × IsOneOfFound (o.file file) got
+  StartGives path (Err why) = (file : F) × (o.path file ≡ path) × CannotStart (o.file file) why
+
+  -- what is known of these events: of a file that isn't opened, and of a start
+  pub record IsKnownOfFile (path : List ℕ) (events : List Event) : Type 0 where
+    pub opened : events ≡ FileOpened path false ∷ [] → o.takes_memory path
+    pub started : (got : Result (Option (List ℕ)) ReadFault) → events ≡ FileOpened path true ∷ Found path got ∷ [] → StartGives path got
+
   -- the record of the game with this stamp is kept in the file at a path, and nothing is to be put
   pub record IsFiledAt (path stamp : List ℕ) (game : KeptGame F) : Type 0 where
     pub of : game.stamp ≡ stamp
@@ -39,11 +50,13 @@ module _ {T P F K S L : Type 0} (o : Outside T P F K S L) where
     pub got : Result (Option (List ℕ)) ReadFault
     pub found : events ≡ Found path got ∷ []
     pub taken : kept_of result ≡ started got
+    pub gives : StartGives path got
     pub ok : IfOk result (IsFiledAt path stamp)
 
   -- it was taken, or can't be
   pub record TakesFile (path stamp : List ℕ) (result : Result (KeptGame F) OpenGameError) (events : List Event) : Type 0 where
     pub taken : TakesFromFile path (kept_of result) events
+    pub known : IsKnownOfFile path events
     pub ok : IfOk result (IsFiledAt path stamp)
 
   -- what a game has to put is put in its file, or that fails

@@ -11,7 +11,7 @@ use Rattle.system_io.specs.Records.{AreSame, IsSettled, StoredRecord, records_of
 use Rattle.system_io.specs.declared.record_store.Entry.{Entry}
 use Rattle.timeline.specs.Events.{Committed, Event, Noted, RecordSought, is_done, stamped}
 use Rattle.timeline.specs.Outsides.{Outside}
-use Rattle.game_folder.specs.FolderGames.{FindsInFolder}
+use Rattle.game_folder.specs.FolderGames.{FindsInFolder, StandsOn}
 use Rattle.game_folder.specs.Holdings.{GamesFacts, kept_of}
 use Rattle.game_folder.specs.Places.{InStore}
 use Rattle.game_folder.specs.declared.games.KeptGame.{KeptGame}
@@ -147,8 +147,8 @@ store_games_facts o = record {
   place = λ g. record { folder = g.folder; store_path = o.store_path g.store };
   places = λ at stamp. InStore at.store_path;
   noted = HasNoted;
-  finds = λ at. FindsInFolder at.folder;
-  takes = λ g stamp result events new. TakesFromStore (o.store_path g.store) g stamp result events × (new ≡ g);
+  finds = λ at stamp result events. FindsInFolder at.folder stamp result events × StandsOn o.disk at.folder stamp result;
+  takes = λ g stamp result events new. TakesFromStore (o.store_path g.store) g stamp result events × (new ≡ g) × IfOk result (λ kept. kept ≡ kept_bytes o g stamp);
   keeps = λ g stamp bytes done events new. (events ≡ []) × NotesBytes g stamp bytes done new;
-  commits = λ g told events new. CommitsNoted (o.store_path g.store) g told events × LeavesNoted told g new;
+  commits = λ g told events new. CommitsNoted (o.store_path g.store) g told events × LeavesNoted told g new × Stores o told g new;
 }

@@ -63,7 +63,7 @@ pub(crate) fn find_file<S: System>(
 }
 
 impl<'f, S: System> Games<S> for FolderGames<'f> {
-    ghost facts = { λ _. folder_games_facts };
+    ghost facts = { λ system. folder_games_facts (S.outside system) };
 
     fn find(
         &self,
@@ -72,7 +72,7 @@ impl<'f, S: System> Games<S> for FolderGames<'f> {
         timeline: &mut S::Timeline,
         stamp: Stamp,
     ) -> Result<GameConfig, OpenGameError>
-        ensures made { AddsSome (S.outside system.now) timeline.old timeline.new (FindsGame folder_games_facts self.now stamp result) }
+        ensures made { AddsSome (S.outside system.now) timeline.old timeline.new (FindsGame (folder_games_facts (S.outside system.now)) self.now stamp result) }
         ensures told { IfOk result (λ game. HasGame (S.outside system.now).disk self.now.folder.now stamp (game_as_told game.name.items game.start game.delay)) }
         ensures lacks { IfErr result (LacksFile (S.outside system.now).disk self.now.folder.now stamp) }
     {

@@ -62,7 +62,7 @@ impl<'f> OneGame<'f> {
 }
 
 impl<'f, S: System> Games<S> for OneGame<'f> {
-    ghost facts = { λ _. one_game_facts };
+    ghost facts = { λ system. one_game_facts (S.outside system) };
 
     /// `NoGame` where the stamp is another one.
     fn find(
@@ -89,7 +89,7 @@ impl<'f, S: System> Games<S> for OneGame<'f> {
         timeline: &mut S::Timeline,
         stamp: Stamp,
     ) -> Result<KeptGame<S::File>, OpenGameError>
-        ensures made { AddsSome (S.outside system.now) timeline.old timeline.new (TakesGame one_game_facts (S.outside system.now) self.old self.new stamp result) }
+        ensures made { AddsSome (S.outside system.now) timeline.old timeline.new (TakesGame (one_game_facts (S.outside system.now)) (S.outside system.now) self.old self.new stamp result) }
         ensures same { self.new ≡ self.old }
     {
         take_file(alloc, system, timeline, self.path, stamp)
@@ -102,7 +102,7 @@ impl<'f, S: System> Games<S> for OneGame<'f> {
         game: &mut KeptGame<S::File>,
     ) -> Result<(), OpenGameError>
         requires { IsKeptIn (S.outside system.now) (InFile self.old.at.path) game.old.file }
-        ensures made { let o = S.outside system.now in AddsSome o timeline.old timeline.new (KeepsGame one_game_facts o self.old self.new game.old game.new result) }
+        ensures made { let o = S.outside system.now in AddsSome o timeline.old timeline.new (KeepsGame (one_game_facts o) o self.old self.new game.old game.new result) }
         ensures lost { self.new ≡ record self.old { is_lost = self.old.is_lost || not (is_done result) } }
     {
         let done = put_file(system, timeline, game);
@@ -113,7 +113,7 @@ impl<'f, S: System> Games<S> for OneGame<'f> {
     }
 
     fn commit(&mut self, _system: &S, _timeline: &mut S::Timeline) -> Result<(), Uncommitted>
-        ensures made { AddsSome (S.outside _system.now) _timeline.old _timeline.new (CommitsGames one_game_facts self.old self.new result) }
+        ensures made { AddsSome (S.outside _system.now) _timeline.old _timeline.new (CommitsGames (one_game_facts (S.outside _system.now)) self.old self.new result) }
         ensures same { self.new ≡ self.old }
         ensures why { IfErr result (λ why. why ≡ Uncommitted.StoreLost) }
     {

@@ -16,6 +16,6 @@ returns g c =
       made = (
         h.0,
         h.1,
-        keeps_by_file o folder_games_facts c.args.self.now c.args.self.now path c.args.game.now c.put_file.new.game c.put_file.result h.0 refl refl (λ s b n. n) (path_of_kept o path c.args.game.now.file c.requires) (λ ok. refl) (λ bytes is. (is, refl)) h.2,
+        keeps_by_file o (folder_games_facts o) c.args.self.now c.args.self.now path c.args.game.now c.put_file.new.game c.put_file.result h.0 refl refl (λ s b n. n) (path_of_kept o path c.args.game.now.file c.requires) (λ ok. refl) (λ bytes is. (is, refl)) h.2,
       );
     }

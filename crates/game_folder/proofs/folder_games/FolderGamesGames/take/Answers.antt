@@ -3,7 +3,7 @@ use Rattle.arbiter_server.specs.GameFolders.{kept_path}
 use Rattle.timeline.proofs.EventLaws.{adds_none}
 use Rattle.game_folder.specs.FolderGames.{folder_games_facts}
 use Rattle.game_folder.specs.RecordFiles.{HadNoRoom}
-use Rattle.game_folder.proofs.RecordLaws.{takes_by_file}
+use Rattle.game_folder.proofs.RecordLaws.{known_nothing, takes_by_file}
 use Rattle.game_folder.proofs.folder_games.FolderGamesGames.take.Goals as goal
 
 pub returns-in_default : goal.returns-in_default
@@ -11,7 +11,7 @@ returns-in_default g c = record {
   made = (
     [],
     adds_none (g.S.System.outside c.args.system.now) c.args.timeline.now,
-    record { still = record { quiet = tt; place = refl }; noted = λ stamp bytes n. n; taken = (HadNoRoom refl refl, refl); ok = tt },
+    record { still = record { quiet = tt; place = refl }; noted = λ stamp bytes n. n; taken = (HadNoRoom refl refl, refl, known_nothing (g.S.System.outside c.args.system.now) _); ok = tt },
   );
 }
 
@@ -26,6 +26,6 @@ returns g c =
       made = (
         h.0,
         h.1,
-        takes_by_file o folder_games_facts games path c.args.stamp c.take_file.result h.0 refl (λ got t. (t, refl)) c.as_str.result.now at h.2,
+        takes_by_file o (folder_games_facts o) games path c.args.stamp c.take_file.result h.0 refl (λ got t k. (t, refl, k)) c.as_str.result.now at h.2,
       );
     }
