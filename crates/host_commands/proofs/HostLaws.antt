@@ -79,5 +79,5 @@ module _ {T P F K S L : Type 0} (o : Outside T P F K S L) (h : HostGames) (given
 
 -- the games of the folder, with a file for each record
 pub files_so : {T P F K S L : Type 0} (o : Outside T P F K S L) (h : HostGames) (common : CommonView) (read : ℕ) (a b : T) (games : FolderGames) (r : Result ℕ WriteFault) → games.folder.now ≡ h.games.now
-    → HostDoes o h (BindsAndRuns o folder_games_facts h read (served_with common games)) a b r → HostDoes o h (RunsFiles o h common read) a b r
-files_so o h common read a b games r is p = outlives_so o h a b (BindsAndRuns o folder_games_facts h read (served_with common games)) (RunsFiles o h common read) r (λ events status runs. record { games = games; folder = is; runs = runs }) p
+    → HostDoes o h (BindsAndRuns o (folder_games_facts o) h read (served_with common games)) a b r → HostDoes o h (RunsFiles o h common read) a b r
+files_so o h common read a b games r is p = outlives_so o h a b (BindsAndRuns o (folder_games_facts o) h read (served_with common games)) (RunsFiles o h common read) r (λ events status runs. record { games = games; folder = is; runs = runs }) p

@@ -48,9 +48,9 @@ module _ {T P F K S L G : Type 0} (o : Outside T P F K S L) (facts : GamesFacts 
 module _ {T P F K S L : Type 0} (o : Outside T P F K S L) (l : Listen) (given : Given) (start : Parts) (a b : T) (r : Result ℕ WriteFault) where
   -- by these tables and their manifest
   pub runs_by : (set : Holding) (manifest : List ℕ) (served : OneServed OneGameView) → GathersTables given usual_cache (Ok set) [] → MakesManifest given (Ok manifest) [] → served ≡ served_of l start set manifest
-      → AddsSome o a b (Performs (BindsAndRuns o one_game_facts l served) r) → AddsSome o a b (Performs (ListensFrom o l given start) r)
+      → AddsSome o a b (Performs (BindsAndRuns o (one_game_facts o) l served) r) → AddsSome o a b (Performs (ListensFrom o l given start) r)
   runs_by set manifest served tables made is p =
-      let one : AddsSome o a b (Performs (RunsGame o l start set manifest) r) = subst (λ (s : OneServed OneGameView). AddsSome o a b (Performs (BindsAndRuns o one_game_facts l s) r)) is p in
+      let one : AddsSome o a b (Performs (RunsGame o l start set manifest) r) = subst (λ (s : OneServed OneGameView). AddsSome o a b (Performs (BindsAndRuns o (one_game_facts o) l s) r)) is p in
       goes_on_so o a b (GathersTables given usual_cache) (λ set. ThenOrRefused (MakesManifest given) (RunsGame o l start set)) set r tables (goes_on_so o a b (MakesManifest given) (RunsGame o l start set) manifest r made one)
 
   pub no_manifest : (set : Holding) (words : List ℕ) → GathersTables given usual_cache (Ok set) [] → MakesManifest given (Err words) [] → AddsSome o a b (Performs (Prints (words ∷ []) 1) r) → AddsSome o a b (Performs (ListensFrom o l given start) r)

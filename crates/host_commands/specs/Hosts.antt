@@ -132,7 +132,7 @@ module _ {T P F K S L : Type 0} (o : Outside T P F K S L) (h : HostGames) where
   pub record RunsFiles (common : CommonView) (read : ℕ) (events : List Event) (status : Option ℕ) : Type 0 where
     pub games : FolderGames
     pub folder : games.folder.now ≡ h.games.now
-    pub runs : BindsAndRuns o folder_games_facts h read (served_with common games) events status
+    pub runs : BindsAndRuns o (folder_games_facts o) h read (served_with common games) events status
 
   -- or with a store
   abbrev pub RunsStore : CommonView → ℕ → Doing

@@ -129,7 +129,7 @@ usual_cache = 64
 module _ {T P F K S L : Type 0} (o : Outside T P F K S L) (l : Listen) where
   -- the arbiter of the game that the words tell, by these tables
   abbrev pub RunsGame : Parts → Holding → List ℕ → Doing
-  RunsGame start set manifest = BindsAndRuns o one_game_facts l (served_of l start set manifest)
+  RunsGame start set manifest = BindsAndRuns o (one_game_facts o) l (served_of l start set manifest)
 
   -- by the tables that were read, and their manifest
   abbrev pub ListensFrom : Given → Parts → Doing

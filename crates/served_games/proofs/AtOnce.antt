@@ -9,6 +9,7 @@ use Rattle.arbiter_server.specs.declared.games.GameConfig.{GameConfig}
 use Rattle.system_io.specs.declared.reading.ReadFault.{ReadFault}
 use Rattle.system_io.specs.declared.reading.ReadFault.TheVariants as read
 use Rattle.timeline.specs.Events.{Event, FileOpened, Found, Put}
+use Rattle.timeline.specs.Outsides.{Outside}
 use Rattle.game_folder.specs.FolderGames.{FindsInFolder, HadNoPath, Sought, folder_games_facts}
 use Rattle.game_folder.specs.OneGame.{OneGameView, OnePlace, one_game_facts}
 use Rattle.game_folder.specs.Places.{InFile}
@@ -108,58 +109,59 @@ folder_finds : (folder stamp other : List ℕ) (result : Result GameConfig OpenG
 folder_finds folder stamp other result events past (HadNoPath why none) = stays_none (InFile (kept_path folder stamp)) stamp past events none
 folder_finds folder stamp other result events past (Sought got short told one) = λ found m. subst (λ (l : List Event). MayFind (InFile (kept_path folder stamp)) stamp (behind past l) found) one m
 
-folder_apart : (folder stamp other : List ℕ) → IsToldAt folder_games_facts folder stamp → IsToldAt folder_games_facts folder other → bytes_eq other stamp ≡ false → kept_path folder other ≢ kept_path folder stamp
-folder_apart folder stamp other mine its apart =
-    paths_apart folder stamp other
-    (stamp_fits mine.manifest stamp mine.game.name.items mine.game.start mine.game.delay mine.is)
-    (stamp_fits its.manifest other its.game.name.items its.game.start its.game.delay its.is) apart
+module _ {T P F K S L : Type 0} (o : Outside T P F K S L) where
+  folder_apart : (folder stamp other : List ℕ) → IsToldAt (folder_games_facts o) folder stamp → IsToldAt (folder_games_facts o) folder other → bytes_eq other stamp ≡ false → kept_path folder other ≢ kept_path folder stamp
+  folder_apart folder stamp other mine its apart =
+      paths_apart folder stamp other
+      (stamp_fits mine.manifest stamp mine.game.name.items mine.game.start mine.game.delay mine.is)
+      (stamp_fits its.manifest other its.game.name.items its.game.start its.game.delay its.is) apart
 
--- no call changes where the folder is
-folder_there : (folder : List ℕ) (g : FolderGames) → IsThere folder_games_facts folder g → g.folder.now ≡ folder
-folder_there folder g (AtPlace is) = is
-folder_there folder g (BehindTake old stamp result events there takes) = ap (λ (x : FolderGames). x.folder.now) takes.1 ∙ folder_there folder old there
-folder_there folder g (BehindPut old stamp bytes is_done events there keeps) = ap (λ (x : FolderGames). x.folder.now) keeps.1 ∙ folder_there folder old there
+  -- no call changes where the folder is
+  folder_there : (folder : List ℕ) (g : FolderGames) → IsThere (folder_games_facts o) folder g → g.folder.now ≡ folder
+  folder_there folder g (AtPlace is) = is
+  folder_there folder g (BehindTake old stamp result events there takes) = ap (λ (x : FolderGames). x.folder.now) takes.1 ∙ folder_there folder old there
+  folder_there folder g (BehindPut old stamp bytes is_done events there keeps) = ap (λ (x : FolderGames). x.folder.now) keeps.1 ∙ folder_there folder old there
 
-puts_there : (folder stamp bytes : List ℕ) (is_done : Bool) (events : List Event) (g : FolderGames) → IsThere folder_games_facts folder g → events ≡ puts_in_file (kept_path g.folder.now stamp) bytes is_done → events ≡ puts_in_file (kept_path folder stamp) bytes is_done
-puts_there folder stamp bytes is_done events g there are = subst (λ (x : List ℕ). events ≡ puts_in_file (kept_path x stamp) bytes is_done) (folder_there folder g there) are
+  puts_there : (folder stamp bytes : List ℕ) (is_done : Bool) (events : List Event) (g : FolderGames) → IsThere (folder_games_facts o) folder g → events ≡ puts_in_file (kept_path g.folder.now stamp) bytes is_done → events ≡ puts_in_file (kept_path folder stamp) bytes is_done
+  puts_there folder stamp bytes is_done events g there are = subst (λ (x : List ℕ). events ≡ puts_in_file (kept_path x stamp) bytes is_done) (folder_there folder g there) are
 
-pub folder_games_keep_at_once : KeepsAtOnce folder_games_facts
-folder_games_keep_at_once = record {
-  finds = folder_finds;
-  takes = λ folder g now there stamp got events past takes durable.
-      file_takes (kept_path folder stamp) stamp got events past (subst (λ (x : List ℕ). TakesFromFile (kept_path x stamp) (Ok got) events) (folder_there folder g there) takes.0) durable;
-  withholds = λ folder g now there stamp why events past takes.
-      file_withholds (kept_path folder stamp) stamp why events past (subst (λ (x : List ℕ). TakesFromFile (kept_path x stamp) (Err why) events) (folder_there folder g there) takes.0);
-  keeps = λ folder g now there stamp bytes events past keeps. file_keeps (kept_path folder stamp) stamp bytes events past (puts_there folder stamp bytes true events g there keeps.0);
-  fails = λ folder g now there stamp bytes events past keeps. file_fails (kept_path folder stamp) stamp bytes events past (puts_there folder stamp bytes false events g there keeps.0);
-  takes_apart = λ folder g now there stamp other mine its apart result events past takes.
-      file_takes_apart (kept_path folder stamp) stamp (kept_path folder other) (folder_apart folder stamp other mine its apart) result events past (subst (λ (x : List ℕ). TakesFromFile (kept_path x other) result events) (folder_there folder g there) takes.0);
-  keeps_apart = λ folder g now there stamp other bytes mine its apart is_done events past keeps.
-      file_keeps_apart (kept_path folder stamp) stamp (kept_path folder other) (folder_apart folder stamp other mine its apart) bytes is_done events past (puts_there folder other bytes is_done events g there keeps.0);
-  commits = λ folder g now there stamp told events past done. stays_none (InFile (kept_path folder stamp)) stamp past events done.1;
-}
+  pub folder_games_keep_at_once : KeepsAtOnce (folder_games_facts o)
+  folder_games_keep_at_once = record {
+    finds = λ folder stamp other result events past finds. folder_finds folder stamp other result events past finds.0;
+    takes = λ folder g now there stamp got events past takes durable.
+        file_takes (kept_path folder stamp) stamp got events past (subst (λ (x : List ℕ). TakesFromFile (kept_path x stamp) (Ok got) events) (folder_there folder g there) takes.0) durable;
+    withholds = λ folder g now there stamp why events past takes.
+        file_withholds (kept_path folder stamp) stamp why events past (subst (λ (x : List ℕ). TakesFromFile (kept_path x stamp) (Err why) events) (folder_there folder g there) takes.0);
+    keeps = λ folder g now there stamp bytes events past keeps. file_keeps (kept_path folder stamp) stamp bytes events past (puts_there folder stamp bytes true events g there keeps.0);
+    fails = λ folder g now there stamp bytes events past keeps. file_fails (kept_path folder stamp) stamp bytes events past (puts_there folder stamp bytes false events g there keeps.0);
+    takes_apart = λ folder g now there stamp other mine its apart result events past takes.
+        file_takes_apart (kept_path folder stamp) stamp (kept_path folder other) (folder_apart folder stamp other mine its apart) result events past (subst (λ (x : List ℕ). TakesFromFile (kept_path x other) result events) (folder_there folder g there) takes.0);
+    keeps_apart = λ folder g now there stamp other bytes mine its apart is_done events past keeps.
+        file_keeps_apart (kept_path folder stamp) stamp (kept_path folder other) (folder_apart folder stamp other mine its apart) bytes is_done events past (puts_there folder other bytes is_done events g there keeps.0);
+    commits = λ folder g now there stamp told events past done. stays_none (InFile (kept_path folder stamp)) stamp past events done.1;
+  }
 
--- ---- one game
+  -- ---- one game
 
-one_there : (at : OnePlace) (g : OneGameView) → IsThere one_game_facts at g → g.at ≡ at
-one_there at g (AtPlace is) = is
-one_there at g (BehindTake old stamp result events there takes) = ap (λ (x : OneGameView). x.at) takes.1 ∙ one_there at old there
-one_there at g (BehindPut old stamp bytes is_done events there keeps) = ap (λ (x : OneGameView). x.at) keeps.1 ∙ one_there at old there
+  one_there : (at : OnePlace) (g : OneGameView) → IsThere (one_game_facts o) at g → g.at ≡ at
+  one_there at g (AtPlace is) = is
+  one_there at g (BehindTake old stamp result events there takes) = ap (λ (x : OneGameView). x.at) takes.1 ∙ one_there at old there
+  one_there at g (BehindPut old stamp bytes is_done events there keeps) = ap (λ (x : OneGameView). x.at) keeps.1 ∙ one_there at old there
 
-one_puts : (at : OnePlace) (bytes : List ℕ) (is_done : Bool) (events : List Event) (g : OneGameView) → IsThere one_game_facts at g → events ≡ puts_in_file g.at.path bytes is_done → events ≡ puts_in_file at.path bytes is_done
-one_puts at bytes is_done events g there are = subst (λ (x : OnePlace). events ≡ puts_in_file x.path bytes is_done) (one_there at g there) are
+  one_puts : (at : OnePlace) (bytes : List ℕ) (is_done : Bool) (events : List Event) (g : OneGameView) → IsThere (one_game_facts o) at g → events ≡ puts_in_file g.at.path bytes is_done → events ≡ puts_in_file at.path bytes is_done
+  one_puts at bytes is_done events g there are = subst (λ (x : OnePlace). events ≡ puts_in_file x.path bytes is_done) (one_there at g there) are
 
--- no other one is found there
-pub one_game_keeps_at_once : KeepsAtOnce one_game_facts
-one_game_keeps_at_once = record {
-  finds = λ at stamp other result events past finds. stays_none (InFile at.path) stamp past events finds.1;
-  takes = λ at g now there stamp got events past takes durable.
-      file_takes at.path stamp got events past (subst (λ (x : OnePlace). TakesFromFile x.path (Ok got) events) (one_there at g there) takes.0) durable;
-  withholds = λ at g now there stamp why events past takes.
-      file_withholds at.path stamp why events past (subst (λ (x : OnePlace). TakesFromFile x.path (Err why) events) (one_there at g there) takes.0);
-  keeps = λ at g now there stamp bytes events past keeps. file_keeps at.path stamp bytes events past (one_puts at bytes true events g there keeps.0);
-  fails = λ at g now there stamp bytes events past keeps. file_fails at.path stamp bytes events past (one_puts at bytes false events g there keeps.0);
-  takes_apart = λ at g now there stamp other mine its apart. absurd (stamps_apart stamp other apart (its.finds.0.0 ∙ sym mine.finds.0.0));
-  keeps_apart = λ at g now there stamp other bytes mine its apart. absurd (stamps_apart stamp other apart (its.finds.0.0 ∙ sym mine.finds.0.0));
-  commits = λ at g now there stamp told events past done. stays_none (InFile at.path) stamp past events done.1;
-}
+  -- no other one is found there
+  pub one_game_keeps_at_once : KeepsAtOnce (one_game_facts o)
+  one_game_keeps_at_once = record {
+    finds = λ at stamp other result events past finds. stays_none (InFile at.path) stamp past events finds.1;
+    takes = λ at g now there stamp got events past takes durable.
+        file_takes at.path stamp got events past (subst (λ (x : OnePlace). TakesFromFile x.path (Ok got) events) (one_there at g there) takes.0) durable;
+    withholds = λ at g now there stamp why events past takes.
+        file_withholds at.path stamp why events past (subst (λ (x : OnePlace). TakesFromFile x.path (Err why) events) (one_there at g there) takes.0);
+    keeps = λ at g now there stamp bytes events past keeps. file_keeps at.path stamp bytes events past (one_puts at bytes true events g there keeps.0);
+    fails = λ at g now there stamp bytes events past keeps. file_fails at.path stamp bytes events past (one_puts at bytes false events g there keeps.0);
+    takes_apart = λ at g now there stamp other mine its apart. absurd (stamps_apart stamp other apart (its.finds.0.0 ∙ sym mine.finds.0.0));
+    keeps_apart = λ at g now there stamp other bytes mine its apart. absurd (stamps_apart stamp other apart (its.finds.0.0 ∙ sym mine.finds.0.0));
+    commits = λ at g now there stamp told events past done. stays_none (InFile at.path) stamp past events done.1;
+  }

@@ -49,15 +49,15 @@ module _ {T P F K S L : Type 0} (o : Outside T P F K S L) (t : CommonView) (game
   abbrev setup : SetupView
   setup = setup_of t game.name.items game.start game.delay
 
-  is_served : (past : List Event) (r : ServedRun FolderGames F) → IsRunOfFolder o t text folder stamp past r → IsServedRun o folder_games_facts folder stamp setup past r
+  is_served : (past : List Event) (r : ServedRun FolderGames F) → IsRunOfFolder o t text folder stamp past r → IsServedRun o (folder_games_facts o) folder stamp setup past r
   is_served past r h = record {
     there = ap (λ (g : FolderGames). g.folder.now) h.new.games_are ∙ h.there;
     closed = h.new.none;
     one = λ other events finds happened.
-        same_setup o t game stamp text (common r.old) other h.new.common_is (found_so folder stamp text (work_of r) h.text_is (game_as_told game.name.items game.start game.delay) spells other events finds happened);
+        same_setup o t game stamp text (common r.old) other h.new.common_is (found_so folder stamp text (work_of r) h.text_is (game_as_told game.name.items game.start game.delay) spells other events finds.0 happened);
     form = h.form;
     texts = h.texts;
-    opens = begun_hears o folder_games_facts r.old r.begun r.unasked h.begins;
+    opens = begun_hears o (folder_games_facts o) r.old r.begun r.unasked h.begins;
     in_turns = h.in_turns;
     hears = h.hears;
     first_stays = h.first_stays;
@@ -65,15 +65,15 @@ module _ {T P F K S L : Type 0} (o : Outside T P F K S L) (t : CommonView) (game
     tail_stays = h.tail_stays;
   }
 
-  are_served : (past : List Event) (runs : List (ServedRun FolderGames F)) → AreRunsOfFolder o t text folder stamp past runs → AreServedRuns o folder_games_facts folder stamp setup past runs
+  are_served : (past : List Event) (runs : List (ServedRun FolderGames F)) → AreRunsOfFolder o t text folder stamp past runs → AreServedRuns o (folder_games_facts o) folder stamp setup past runs
   are_served past [] h = tt
   are_served past (r ∷ rs) h = (is_served past r h.0, are_served (behind past (events_of r)) rs h.1)
 
 pub folder_games_keep_what_they_told : {T P F K S L : Type 0} (o : Outside T P F K S L) → FolderGamesKeepWhatTheyTold o
-folder_games_keep_what_they_told o t game text folder stamp there runs is spells short are durable =
+folder_games_keep_what_they_told o t game text folder stamp there runs is spells short held are durable =
     let path = kept_path folder stamp in
-    runs_last o folder_games_facts folder_games_keep_at_once folder stamp (setup_of t game.name.items game.start game.delay) (Found path (Ok there) ∷ []) (found_keeper there) runs
-    (record { game = game; events = FileSought (game_path folder stamp) (Ok text) ∷ []; finds = Sought (Ok text) short spells refl; manifest = t.manifest; is = is })
+    runs_last o (folder_games_facts o) (folder_games_keep_at_once o) folder stamp (setup_of t game.name.items game.start game.delay) (Found path (Ok there) ∷ []) (found_keeper there) runs
+    (record { game = game; events = FileSought (game_path folder stamp) (Ok text) ∷ []; finds = (Sought (Ok text) short spells refl, record { text = text; held = held; spells = spells }); manifest = t.manifest; is = is })
     (λ found m. inl (if_same path (found ≡ there) (Unit {0}) m))
     (are_served o t game text folder stamp spells (Found path (Ok there) ∷ []) runs are)
     durable.1

@@ -284,7 +284,7 @@ ok_fit o g events (LosesStore may is two) = may.0
 
 pub store_keeps_in_order : {T P F K S L : Type 0} (o : Outside T P F K S L) → StoreKeepsInOrder o
 store_keeps_in_order {S = S} o = record {
-  finds = λ g stamp other result events past finds. finds_so o stamp g other result events past finds;
+  finds = λ g stamp other result events past finds. finds_so o stamp g other result events past finds.0;
   takes = λ g now stamp got events past takes durable. takes_so o stamp g now got events past takes.0 takes.1 durable;
   withholds = λ g now stamp why events past takes durable. withholds_so o stamp g now why events past takes.0 takes.1 durable;
   keeps = λ g now stamp bytes events past keeps. keeps_so o stamp g now bytes events past keeps.0 keeps.1;

@@ -32,14 +32,14 @@ module _ {T P F K S L : Type 0} (o : Outside T P F K S L) (t : CommonView) (game
   same_setup c other common_is told =
       ap (λ (x : CommonView). setup_of x other.name.items other.start other.delay) common_is ∙ ap (λ (g : GameContents). setup_of t g.name g.start g.delay) told
 
-  is_served : (past : List Event) (r : ServedRun OneGameView F) → IsRunOfOne o t game stamp path past r → IsServedRun o one_game_facts (one_place game stamp path) stamp setup past r
+  is_served : (past : List Event) (r : ServedRun OneGameView F) → IsRunOfOne o t game stamp path past r → IsServedRun o (one_game_facts o) (one_place game stamp path) stamp setup past r
   is_served past r h = record {
     there = ap (λ (g : OneGameView). g.at) h.new.games_are;
     closed = h.new.none;
     one = λ other events finds happened. same_setup (common r.old) other h.new.common_is finds.0.1;
     form = h.form;
     texts = h.texts;
-    opens = begun_hears o one_game_facts r.old r.begun r.unasked h.begins;
+    opens = begun_hears o (one_game_facts o) r.old r.begun r.unasked h.begins;
     in_turns = h.in_turns;
     hears = h.hears;
     first_stays = h.first_stays;
@@ -47,13 +47,13 @@ module _ {T P F K S L : Type 0} (o : Outside T P F K S L) (t : CommonView) (game
     tail_stays = h.tail_stays;
   }
 
-  are_served : (past : List Event) (runs : List (ServedRun OneGameView F)) → AreRunsOfOne o t game stamp path past runs → AreServedRuns o one_game_facts (one_place game stamp path) stamp setup past runs
+  are_served : (past : List Event) (runs : List (ServedRun OneGameView F)) → AreRunsOfOne o t game stamp path past runs → AreServedRuns o (one_game_facts o) (one_place game stamp path) stamp setup past runs
   are_served past [] h = tt
   are_served past (r ∷ rs) h = (is_served past r h.0, are_served (behind past (events_of r)) rs h.1)
 
 pub one_game_keeps_what_it_told : {T P F K S L : Type 0} (o : Outside T P F K S L) → OneGameKeepsWhatItTold o
 one_game_keeps_what_it_told o t game stamp path there runs is are durable =
-    runs_last o one_game_facts one_game_keeps_at_once (one_place game stamp path) stamp (setup_of t game.name.items game.start game.delay) (Found path (Ok there) ∷ []) (found_keeper there) runs
+    runs_last o (one_game_facts o) (one_game_keeps_at_once o) (one_place game stamp path) stamp (setup_of t game.name.items game.start game.delay) (Found path (Ok there) ∷ []) (found_keeper there) runs
     (record { game = game; events = []; finds = ((refl, refl), refl); manifest = t.manifest; is = is })
     (λ found m. inl (if_same path (found ≡ there) (Unit {0}) m))
     (are_served o t game stamp path (Found path (Ok there) ∷ []) runs are)

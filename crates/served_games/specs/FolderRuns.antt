@@ -33,11 +33,11 @@ module _ {T P F K S L : Type 0} (o : Outside T P F K S L) (t : CommonView) (text
     pub games : FolderGames
     pub there : games.folder.now ≡ folder
     pub new : IsNewServer t games r.old
-    pub begins : Begins o folder_games_facts r.old r.unasked r.begun
+    pub begins : Begins o (folder_games_facts o) r.old r.unasked r.begun
     pub form : LineForm
     pub texts : List (List ℕ)
-    pub in_turns : InTurns o folder_games_facts form texts r.begun r.turns r.mid
-    pub hears : HearsAll o folder_games_facts r.mid r.heard r.new
+    pub in_turns : InTurns o (folder_games_facts o) form texts r.begun r.turns r.mid
+    pub hears : HearsAll o (folder_games_facts o) r.mid r.heard r.new
     pub text_is : AllByRecursion (ReadsAs (game_path folder stamp) text) (work_of r)
     pub first_stays : Stays past r.first
     pub asked_stays : Stays (behind (behind past r.first) (flat_map made_of r.unasked)) r.asked
@@ -57,7 +57,7 @@ abbrev pub FolderGamesKeepWhatTheyTold : {T P F K S L : Type 0} → Outside T P 
 FolderGamesKeepWhatTheyTold {F} o =
     (t : CommonView) (game : GameConfig) (text folder stamp : List ℕ) (there : Option (List ℕ)) (runs : List (ServedRun FolderGames F))
     → IsGameOf t.manifest stamp game.name.items game.start game.delay
-    → SpellsGame text (game_as_told game.name.items game.start game.delay) → length text ≤ most_game_bytes
+    → SpellsGame text (game_as_told game.name.items game.start game.delay) → length text ≤ most_game_bytes → o.disk.holds (game_path folder stamp) text
     → AreRunsOfFolder o t text folder stamp (Found (kept_path folder stamp) (Ok there) ∷ []) runs
     → IsDurable (InFile (kept_path folder stamp)) stamp (Found (kept_path folder stamp) (Ok there) ∷ events_of_all runs)
-    → AllByRecursion (LastsBehind o folder_games_facts folder stamp (setup_of t game.name.items game.start game.delay) (behind (Found (kept_path folder stamp) (Ok there) ∷ []) (events_of_all runs))) runs
+    → AllByRecursion (LastsBehind o (folder_games_facts o) folder stamp (setup_of t game.name.items game.start game.delay) (behind (Found (kept_path folder stamp) (Ok there) ∷ []) (events_of_all runs))) runs

@@ -27,11 +27,11 @@ module _ {T P F K S L : Type 0} (o : Outside T P F K S L) (t : CommonView) (game
   -- last of which it may not have finished. Nothing else that the run does changes what a start finds in the file.
   pub record IsRunOfOne (past : List Event) (r : ServedRun OneGameView F) : Type 0 where
     pub new : IsNewServer t (record { at = one_place game stamp path; is_lost = false }) r.old
-    pub begins : Begins o one_game_facts r.old r.unasked r.begun
+    pub begins : Begins o (one_game_facts o) r.old r.unasked r.begun
     pub form : LineForm
     pub texts : List (List ℕ)
-    pub in_turns : InTurns o one_game_facts form texts r.begun r.turns r.mid
-    pub hears : HearsAll o one_game_facts r.mid r.heard r.new
+    pub in_turns : InTurns o (one_game_facts o) form texts r.begun r.turns r.mid
+    pub hears : HearsAll o (one_game_facts o) r.mid r.heard r.new
     pub first_stays : Stays past r.first
     pub asked_stays : Stays (behind (behind past r.first) (flat_map made_of r.unasked)) r.asked
     pub tail_stays : Stays (behind (behind past r.first) (work_of r)) r.tail
@@ -52,4 +52,4 @@ OneGameKeepsWhatItTold {F} o =
     → IsGameOf t.manifest stamp game.name.items game.start game.delay
     → AreRunsOfOne o t game stamp path (Found path (Ok there) ∷ []) runs
     → IsDurable (InFile path) stamp (Found path (Ok there) ∷ events_of_all runs)
-    → AllByRecursion (LastsBehind o one_game_facts (one_place game stamp path) stamp (setup_of t game.name.items game.start game.delay) (behind (Found path (Ok there) ∷ []) (events_of_all runs))) runs
+    → AllByRecursion (LastsBehind o (one_game_facts o) (one_place game stamp path) stamp (setup_of t game.name.items game.start game.delay) (behind (Found path (Ok there) ∷ []) (events_of_all runs))) runs

@@ -42,19 +42,19 @@ pub fn runs_last<S: System, G: Games<S>>(_system: &S)
 {}
 
 /// Each record of a folder is put in its own file at once, and is found there.
-pub fn folder_games_keep_at_once()
-    ensures { KeepsAtOnce folder_games_facts }
+pub fn folder_games_keep_at_once<S: System>(_system: &S)
+    ensures { KeepsAtOnce (folder_games_facts (S.outside _system.now)) }
 {}
 
 /// The record of one game is put in its file at once, and is found there; no other game is.
-pub fn one_game_keeps_at_once()
-    ensures { KeepsAtOnce one_game_facts }
+pub fn one_game_keeps_at_once<S: System>(_system: &S)
+    ensures { KeepsAtOnce (one_game_facts (S.outside _system.now)) }
 {}
 
 /// Of the games of a folder, where their files are durable, each opening of a game in a run is over what it left, and whatever a start may find
 /// behind the run is what the game keeps or left.
 pub fn folder_games_are_found<S: System>(_system: &S)
-    ensures { GamesAreFound (S.outside _system.now) folder_games_facts }
+    ensures { GamesAreFound (S.outside _system.now) (folder_games_facts (S.outside _system.now)) }
 {}
 
 /// What a game of a folder told stays, over all runs of new servers of the folder, wherever each of them stopped. The premises are in the
@@ -67,8 +67,8 @@ pub fn folder_games_keep_what_they_told<S: System>(_system: &S)
 /// So it is of one game, where its file is durable; and whatever a start may find behind any runs is a record in which all is that each answer
 /// told.
 pub fn one_game_lasts<S: System>(_system: &S)
-    ensures found { GamesAreFound (S.outside _system.now) one_game_facts }
-    ensures last { RunsLast (S.outside _system.now) one_game_facts }
+    ensures found { GamesAreFound (S.outside _system.now) (one_game_facts (S.outside _system.now)) }
+    ensures last { RunsLast (S.outside _system.now) (one_game_facts (S.outside _system.now)) }
 {}
 
 /// What one game told stays, over all runs of new servers of it, each of which opens it unasked, and wherever each of them stopped. The premises

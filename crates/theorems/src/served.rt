@@ -18,12 +18,12 @@ pub fn served_are_hosted<S: System, G: game_folder::Games<S>>(_system: &S)
 /// Over the file of one game, where it is durable, each opening is over what was left: so each run of its server, wherever it stopped, is one of
 /// a host.
 pub fn served_game_is_hosted<S: System>(_system: &S)
-    ensures { ServedRunsAreHosted (S.outside _system.now) one_game_facts }
+    ensures { ServedRunsAreHosted (S.outside _system.now) (one_game_facts (S.outside _system.now)) }
 {}
 
 /// So is each run of a folder's server, of a game whose own file tells this game whenever it is read, and the file of whose record is durable.
 pub fn served_folder_is_hosted<S: System>(_system: &S)
-    ensures { ServedRunsAreHosted (S.outside _system.now) folder_games_facts }
+    ensures { ServedRunsAreHosted (S.outside _system.now) (folder_games_facts (S.outside _system.now)) }
 {}
 
 /// Two servers of one game, each over places of its own, come to what a schedule comes to, in whichever order their acts come and however often

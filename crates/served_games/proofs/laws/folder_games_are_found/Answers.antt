@@ -6,4 +6,4 @@ use Rattle.served_games.proofs.laws.folder_games_are_found.Goals as goal
 pub returns : goal.returns
 returns g c =
     let o = g.S.System.outside c.args._system.now in
-    games_are_found o folder_games_facts folder_games_keep_at_once
+    games_are_found o (folder_games_facts o) (folder_games_keep_at_once o)

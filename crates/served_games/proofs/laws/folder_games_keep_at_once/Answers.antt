@@ -2,4 +2,4 @@ use Rattle.served_games.proofs.AtOnce.{folder_games_keep_at_once}
 use Rattle.served_games.proofs.laws.folder_games_keep_at_once.Goals as goal
 
 pub returns : goal.returns
-returns g = folder_games_keep_at_once
+returns g c = folder_games_keep_at_once (g.S.System.outside c.args._system.now)

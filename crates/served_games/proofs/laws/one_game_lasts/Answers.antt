@@ -7,4 +7,4 @@ use Rattle.served_games.proofs.laws.one_game_lasts.Goals as goal
 pub returns : goal.returns
 returns g c =
     let o = g.S.System.outside c.args._system.now in
-    record { found = games_are_found o one_game_facts one_game_keeps_at_once; last = runs_last o one_game_facts one_game_keeps_at_once }
+    record { found = games_are_found o (one_game_facts o) (one_game_keeps_at_once o); last = runs_last o (one_game_facts o) (one_game_keeps_at_once o) }

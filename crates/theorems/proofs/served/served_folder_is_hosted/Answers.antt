@@ -4,4 +4,4 @@ use Rattle.theorems.proofs.Serving.{runs_are_hosted}
 use Rattle.theorems.proofs.served.served_folder_is_hosted.Goals as goal
 
 pub returns : goal.returns
-returns g c = runs_are_hosted (g.S.System.outside c.args._system.now) folder_games_facts folder_games_keep_at_once
+returns g c = let o = g.S.System.outside c.args._system.now in runs_are_hosted o (folder_games_facts o) (folder_games_keep_at_once o)
