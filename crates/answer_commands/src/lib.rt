@@ -8,7 +8,8 @@
 //! Inside: a file for each command that is made here. The others are done elsewhere: `record` and `audit` reply by what `record_commands`
 //! makes of what was read; `judge`, `probe`, `root FEN` and `game` by what `table_commands` makes of it, which may read tables meanwhile
 //! (`replying`); the commands that answer lines, `pgn` and `follow` are done by `table_commands`, and `status` and what is asked of all games
-//! by `game_reports`; `listen` and `host` by `host_commands`. `answers` has an answer before it is written, `printing` lines, refusals and the output's end, `answering` all of them, `by_tables` those by tables.
+//! by `game_reports`; `listen` and `host` by `host_commands`. `answers` has an answer before it is written, `printing` lines, refusals and the
+//! output's end, `answering` all of them, `by_tables` those by tables.
 //! Of `enter` there are `entries` (the lines of a list), `stamping` (the manifest), `keeping` (a game's file) and `earlier` (the note on a
 //! game that was there before), and `entering` (the command); of `send` `sent_game` (the game) and `sending` (the run of
 //! `send_moves` of source_core at its port, and who was silent). `keys` reads a file of keys, and `sealing` answers over ports that are sealed
@@ -37,7 +38,7 @@
 //!   game's file. Then its port is bound, and the moves of the input are sent as `send_moves` of source_core has it: a line goes out before
 //!   the next line of the input is read. Where an arbiter doesn't answer, two lines on standard error say so, and the status is 1.
 //! - CLAIM: `answer`: where a file of keys is named, it is read before all else, and what happens then is so as it is seen through ports that are
-//!   sealed by them (`keyed_outside` of sealed_port); or why it has none is noted, written, and nothing else is done. That is the first of:
+//!   sealed by them (`keyed_outside` of sealed_port); or why it has none is written, and may be noted, and nothing else is done. That is the first of:
 //!   it can't be read as a regular file of at most 130 bytes; its group or others have some right; its first malformed line.
 //! - CLAIM: `answer`: what is answered by tables reads what it names once, in order. Where tables are read when they are asked for, their
 //!   folder is listed once after that, and then the file of each table that a position misses is read once; of no other.

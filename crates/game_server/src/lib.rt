@@ -1,5 +1,5 @@
-//! A server of games: it answers the datagrams that come to a port, each by the arbiter of its game. `listen` and `host` are to be such
-//! servers, of one game and of many; no program uses it yet. What happens outside is one list of events over one timeline, with its order.
+//! A server of games: it answers the datagrams that come to a port, each by the arbiter of its game. `listen` and `host` are such servers, of
+//! one game and of many. What happens outside is one list of events over one timeline, with its order.
 //!
 //! A message names its game by a stamp. The server looks up a game that isn't open among its places (`Games` of `game_folder`): its name, its
 //! start, its delay and its record. Where no room is left, the one used least recently is closed. All judge by one set of tables, lent to
@@ -34,7 +34,8 @@
 //!   `ask`, clause `made`: the request for moves of an open game goes to each recipient.
 //! - CLAIM: `PortServer::open`: no game is open yet (the error has no cause).
 //!
-//! Not said: why memory was refused, and whether it was memory or the store that failed a commit.
+//! Not said: why memory was refused, and whether it was memory or the store that failed a commit; that a round awaits its first datagram
+//! alone.
 #![tactic(auto)]
 
 mod gathering;

@@ -6,7 +6,7 @@
 //!
 //! Inside: `noting` (lines that are noted), `binding` (a port at the addresses of two words, also for `send`), `locking`, `ready` (the line
 //! that tells an address), `listening`; of `host` `listing` (its folder), `arriving` (the file of a record that goes over), `importing`
-//! (all of them), `store_opening`, `hosting`.
+//! (all of them), `store_opening`, `hosting`; of both `tables` (what was read) and `serving` (a run).
 //!
 //! Definitions, in reading order: `Notes`, `Binds`, `Locks`, `Ready`, `ServerRuns` (`AnswersAll`), `Listens` (`Listens`); `Listings`,
 //! `Imports` (`ImportsRecords`), `Hosts` (`Hosts`), `Outliving` (`PerformsOutliving`).
@@ -22,7 +22,13 @@
 //!   or its store. Of `host` a run that goes on without lines, behind one that can't be written, is one whose words ask for that.
 //! - CLAIM: `host_games`, clause `made`: where its words ask that the games outlive their log, an output that fails ends it only before a
 //!   datagram is awaited.
+//! - CLAIM: `listen`, `host_games`, clauses `made`: what is told of a game of a folder stands in its file there; what is taken of a record is what
+//!   a start over its file gives, or what the store has and what waits to be committed; behind a commit the store has all of it
+//!   (`folder_games_facts`, `one_game_facts`, `store_games_facts` of game_folder).
 //! - CLAIM: `listen`, `host_games`, clauses `cause`: an error comes only where a write might be refused, or what was written couldn't go out.
+//!
+//! Not said: that a line is noted where memory for it isn't refused, but that a lost log is; why memory was refused; how long a lock is held;
+//! that the file of a record which goes over was read up to 8217 bytes alone; whether memory or the store failed an import.
 #![tactic(auto)]
 
 mod arriving;

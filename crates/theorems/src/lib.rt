@@ -29,7 +29,7 @@
 //! - CLAIM: `acks_are_found`: as many moves as a host ever acknowledged are found there, then and later: the game's first ones.
 //! - CLAIM: `arbiters_tell_the_truth`; `hosts_tell_the_truth`: what such arbiters, and such hosts, tell of the game while it is open is
 //!   true: the record is the game's first moves, with the first verdict exactly at its ply.
-//! - CLAIM: `listens_are_hosted`: a run of `listen` that opens its arbiter and doesn't ask for moves first goes on as one of a host that
+//! - CLAIM: of the servers of `arbiter_server`, which no program runs any more: `listens_are_hosted`: a run over one arbiter that opens its arbiter and doesn't ask for moves first goes on as one of a host that
 //!   has one game, by its acts and by what passes for each datagram, but that it opens the game unasked. `listens_are_worlds`;
 //!   `listen_beside_a_host`: so two of them, and one on either side of a host, come to a world.
 //! - CLAIM: `served_are_hosted`: what a run of a server of games (`game_server`) does of a game is what a run of a host does, where each opening is
@@ -39,20 +39,20 @@
 //!   `served_are_worlds`; `served_beside_a_host`: so two of them, and one on either side of a host, come to a world.
 //! - CLAIM: `served_are_woven`: two servers, each over files, come to a net as `hosts_are_worlds` asks, by where each opening begins: that
 //!   keepers keep, and what a closing leaves, are no premises.
-//! - CLAIM: `host_keeps_what_it_told`: what a host told of a game is found at each later start over the file of its record: as many
+//! - CLAIM: of the servers of `arbiter_server` too: `host_keeps_what_it_told`: what a host told of a game is found at each later start over the file of its record: as many
 //!   moves as it acknowledged, the same ones, and a verdict at its ply. This holds over any files, after any runs, wherever each
 //!   stopped.
 //! - CLAIM: `disk_keeps_what_it_told`; `run_after`, clauses `one`, `there`: so it is of what an arbiter told over a disk in memory that
 //!   loses power, and a run over what a stop left of the disk is such a run.
-//! - CLAIM: `hosts_over_files`: two hosts, each over a file of the game, come to a net as `hosts_are_worlds` asks, by what starts find in
+//! - CLAIM: of those: `hosts_over_files`: two hosts, each over a file of the game, come to a net as `hosts_are_worlds` asks, by what starts find in
 //!   the two files: that keepers keep, and what a closing leaves, are no premises.
-//! - CLAIM: `answers_are_found`: before a host over a store sends the answers of a round, a start over the store finds what they
+//! - CLAIM: of those: `answers_are_found`: before a host over a store sends the answers of a round, a start over the store finds what they
 //!   tell, and what all answers before them told.
-//! - CLAIM: `store_keeps_what_it_told`: what a host over a store told of a game is found at each later start over the store: as many
+//! - CLAIM: of those: `store_keeps_what_it_told`: what a host over a store told of a game is found at each later start over the store: as many
 //!   moves as it acknowledged, the same ones, and a verdict at its ply. This holds after any runs, wherever each stopped.
-//! - CLAIM: `fronts_are_found`: after any runs of a host over a store, wherever each stopped, what a start finds of a game is what they
+//! - CLAIM: of those: `fronts_are_found`: after any runs of a host over a store, wherever each stopped, what a start finds of a game is what they
 //!   keep by the acts of whole rounds: of each run those of its first ones, among them each whose answers went out.
-//! - CLAIM: `hosts_over_stores`: two hosts, each over a store, come by such acts, in whichever order those of the two came, to a net as
+//! - CLAIM: of those: `hosts_over_stores`: two hosts, each over a store, come by such acts, in whichever order those of the two came, to a net as
 //!   `hosts_are_worlds` asks, by what starts find in the two stores: that keepers keep, and what a closing leaves, are no premises.
 //! - CLAIM: `sends_the_log`: each datagram that a run of `send` passes on is a message of the log with which the worlds of its
 //!   moves begin.
