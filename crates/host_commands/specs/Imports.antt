@@ -1,5 +1,5 @@
 -- The store of a folder, and the records of files that go over into it (this project's own).
-use Rattle.std.specs.Prelude.{◌≡◌, ◌⊎◌, ◌++◌, ℕ, true, false, List, [], ◌∷◌, Bool, Option, Some, None, Result, Ok, Err, codes, map, option_map}
+use Rattle.std.specs.Prelude.{◌≡◌, ◌⊎◌, ◌++◌, ℕ, true, false, List, [], ◌∷◌, Bool, Option, Some, None, Result, Ok, Err, codes, map, option_map, ◌≤◌, length}
 use Rattle.std.specs.Cmp.Lexicographic.{slice_cmp}
 use Rattle.std.specs.Fmt.{debug_str}
 use Rattle.std.specs.List.{AllByRecursion, flat_map}
@@ -72,11 +72,11 @@ file_events path (InNeither bytes) = FileRead path (Ok bytes) ∷ []
 abbrev pub look_events : List ℕ → List ℕ → Look → List Event
 look_events store folder look = RecordSought store look.stamp (stored_bytes look.kept) ∷ file_events (kept_path folder look.stamp) look.kept
 
--- what the file holds
+-- what the file holds, in no more bytes than a record has
 abbrev pub HoldsKept : DiskFacts → List ℕ → List ℕ → Kept → Type 0
 HoldsKept disk folder stamp (InStore bytes) = Unit {0}
-HoldsKept disk folder stamp (InFile e) = disk.holds (kept_path folder stamp) e.record.items × IsEntryOf stamp e.record.items e
-HoldsKept disk folder stamp (InNeither bytes) = disk.holds (kept_path folder stamp) bytes × IsNoRecordOf stamp bytes
+HoldsKept disk folder stamp (InFile e) = disk.holds (kept_path folder stamp) e.record.items × IsEntryOf stamp e.record.items e × (length e.record.items ≤ most_kept)
+HoldsKept disk folder stamp (InNeither bytes) = disk.holds (kept_path folder stamp) bytes × IsNoRecordOf stamp bytes × (length bytes ≤ most_kept)
 
 -- so it is of this folder and this store
 pub record IsLook {T P F K S L : Type 0} (o : Outside T P F K S L) (folder : List ℕ) (store : S) (look : Look) : Type 0 where

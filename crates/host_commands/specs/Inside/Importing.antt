@@ -1,5 +1,5 @@
 -- Records that go over into a store, one by one; cited by private clauses alone.
-use Rattle.std.specs.Prelude.{◌≡◌, ◌⊎◌, ◌++◌, ℕ, List, [], ◌∷◌, Option, Some, None, Result, Ok, Err, Vec}
+use Rattle.std.specs.Prelude.{◌≡◌, ◌⊎◌, ◌++◌, ℕ, List, [], ◌∷◌, Option, Some, None, Result, Ok, Err, Vec, ◌≤◌, length}
 use Rattle.std.specs.Global.{Global}
 use Rattle.answer_parts.specs.Lines.{refusal_words}
 use Rattle.answer_parts.specs.declared.answers.refusals.Refusal.{Refusal}
@@ -33,8 +33,8 @@ module _ {T P F K S L : Type 0} (o : Outside T P F K S L) (path : List ℕ) wher
 
   -- it has this one, or none
   abbrev pub HasRecord : List ℕ → Option Entry → List Event → Type 0
-  HasRecord stamp (Some e) events = o.disk.holds path e.record.items × IsEntryOf stamp e.record.items e × (events ≡ file_read (Ok e.record.items))
-  HasRecord stamp None events = (bytes : List ℕ) × o.disk.holds path bytes × IsNoRecordOf stamp bytes × (events ≡ file_read (Ok bytes))
+  HasRecord stamp (Some e) events = o.disk.holds path e.record.items × IsEntryOf stamp e.record.items e × (length e.record.items ≤ most_kept) × (events ≡ file_read (Ok e.record.items))
+  HasRecord stamp None events = (bytes : List ℕ) × o.disk.holds path bytes × IsNoRecordOf stamp bytes × (length bytes ≤ most_kept) × (events ≡ file_read (Ok bytes))
 
   abbrev pub ReadsRecord : List ℕ → Result (Option Entry) Refusal → List Event → Type 0
   ReadsRecord stamp (Ok found) events = HasRecord stamp found events
