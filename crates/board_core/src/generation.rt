@@ -54,6 +54,13 @@ pub struct Guard {
     pub attacked: Bitboard,
 }
 
+/// A piece of the side that moves, and where it stands.
+#[derive(Clone, Copy)]
+struct Mover {
+    kind: Kind,
+    from: Square,
+}
+
 /// Where the men stand.
 fn survey_of(p: &Parts, sides: &Sides) -> Survey
     requires position { IsPosition p.now }
@@ -230,28 +237,27 @@ fn add(
     Ok(())
 }
 
-/// Adds the moves from one square to another that are legal and asked for.
+/// Adds the moves from one square to another, as this move goes, that are legal and asked for, each with its promotion.
 fn add_between(
     p: &Parts,
     g: &Guard,
     which: Which,
     unpinned: bool,
-    from: Square,
-    to: Square,
+    way: &Move,
     moves: &mut Vec<Move>,
 ) -> Result<(), AllocError>
     requires position { IsPosition p.now }
     requires guard { IsGuard p.now g.now }
-    requires unpinned { IsTrue unpinned → IsUnpinned p.now from }
-    requires below { HasListedBelow p.now which (320 * from + 5 * to) moves.old.items }
-    ensures added { OnOk result (HasListedBelow p.now which (320 * from + 5 * (to + 1)) moves.new.items) }
+    requires unpinned { IsTrue unpinned → IsUnpinned p.now way.now.from }
+    requires below { HasListedBelow p.now which (320 * way.now.from + 5 * way.now.to) moves.old.items }
+    ensures added { OnOk result (HasListedBelow p.now which (320 * way.now.from + 5 * (way.now.to + 1)) moves.new.items) }
     ensures memory { OnErr result ((m : Move) × IsListed which p.now m) }
 {
-    let end = places_between(p, from, to);
+    let end = places_between(p, way.from, way.to);
     for place in 0..end {
         let m = Move {
-            from,
-            to,
+            from: way.from,
+            to: way.to,
             promotion: promotion_at(place),
         };
         add(p, g, which, unpinned, &m, moves)?;
@@ -280,7 +286,12 @@ fn add_targets(
     let mut next = 0u8;
     while !rest.is_empty() {
         let to = rest.lowest();
-        add_between(p, g, which, unpinned, from, to, moves)?;
+        let way = Move {
+            from,
+            to,
+            promotion: None,
+        };
+        add_between(p, g, which, unpinned, &way, moves)?;
         rest = rest.without(to);
         next = to.number() + 1;
     }
@@ -382,20 +393,20 @@ fn add_piece_moves(
     v: &Survey,
     known: &mut Option<Bitboard>,
     which: Which,
-    kind: Kind,
-    from: Square,
+    mover: Mover,
     moves: &mut Vec<Move>,
 ) -> Result<(), AllocError>
     requires position { IsPosition p.now }
     requires survey { IsSurvey p.now v.now }
-    requires stands { Stands p.now.men from p.now.side kind }
-    requires piece { (kind ≢ Kind.Pawn) × (kind ≢ Kind.King) }
+    requires stands { Stands p.now.men mover.from p.now.side mover.kind }
+    requires piece { (mover.kind ≢ Kind.Pawn) × (mover.kind ≢ Kind.King) }
     requires known { IsKnown p.now v.now known.old }
-    requires below { HasListedBelow p.now which (320 * from) moves.old.items }
-    ensures moves { OnOk result (HasListedBelow p.now which (320 * (from + 1)) moves.new.items) }
+    requires below { HasListedBelow p.now which (320 * mover.from) moves.old.items }
+    ensures moves { OnOk result (HasListedBelow p.now which (320 * (mover.from + 1)) moves.new.items) }
     ensures memory { OnErr result ((m : Move) × IsListed which p.now m) }
     ensures known { IsKnown p.now v.now known.new }
 {
+    let Mover { kind, from } = mover;
     let set = steps(p, v, which, kind, from);
     if set.is_empty() {
         return Ok(());
@@ -440,7 +451,7 @@ fn add_from(
             let guard = guard_in(p, v, known);
             add_targets(p, &guard, which, from, set, moves)
         }
-        kind => add_piece_moves(p, v, known, which, kind, from, moves),
+        kind => add_piece_moves(p, v, known, which, Mover { kind, from }, moves),
     }
 }
 

@@ -257,29 +257,36 @@ fn join_code(layout: &Layout<'_>, single: CodeRun, code: usize, width: u32, runs
     }
 }
 
-/// Sets those runs of this many bits that begin with a code of one length. Codes of that length are below `top`, and no
-/// shorter code is.
+/// The codes of one length: by how many bits they are longer than the least, and below which 32 bits they begin. No shorter
+/// code begins below that.
+#[derive(Clone, Copy)]
+struct OneLength {
+    more: usize,
+    top: u64,
+}
+
+/// Sets those runs of this many bits that begin with a code of one length.
 fn join_length(
     layout: &Layout<'_>,
     firsts: &[u64],
     counts: &[u16],
-    i: usize,
-    top: u64,
+    one: OneLength,
     width: u32,
     runs: &mut [CodeRun],
 )
     requires least { 1 ≤ layout.now.least }
     requires firsts { AreFirsts layout.now.least (words layout.now.lowest.now) firsts.now }
     requires counts { AreCounts layout.now.symbols.now counts.now }
-    requires known { i < length firsts.now }
-    requires top { IsTop firsts.now i top }
-    requires short { layout.now.least + i ≤ width }
+    requires known { one.more < length firsts.now }
+    requires top { IsTop firsts.now one.more one.top }
+    requires short { layout.now.least + one.more ≤ width }
     requires few { width ≤ 13 }
     requires room { 2 * 2 ^ width ≤ length runs.old }
     requires joined { AreJoined (pairing_in layout.now).0 runs.old }
     ensures joined { AreJoined (pairing_in layout.now).0 runs.new }
     ensures lengths { length runs.new ≡ length runs.old }
 {
+    let OneLength { more: i, top } = one;
     let length = layout.least + i as u32;
     let base = (firsts[i] >> (32 - length)) as usize;
     let end = (top >> (32 - length)) as usize;
@@ -315,7 +322,7 @@ fn join_width(layout: &Layout<'_>, firsts: &[u64], counts: &[u16], width: u32, r
         if layout.least as usize + i > width as usize {
             return;
         }
-        join_length(layout, firsts, counts, i, top, width, runs);
+        join_length(layout, firsts, counts, OneLength { more: i, top }, width, runs);
         top = top.min(firsts[i]);
     }
 }
