@@ -253,6 +253,8 @@ fn add_between(
     ensures added { OnOk result (HasListedBelow p.now which (320 * way.now.from + 5 * (way.now.to + 1)) moves.new.items) }
     ensures memory { OnErr result ((m : Move) × IsListed which p.now m) }
 {
+    prove!(way.from.number() < 64);
+    prove!(way.to.number() < 64);
     let end = places_between(p, way.from, way.to);
     for place in 0..end {
         let m = Move {

@@ -322,7 +322,14 @@ fn join_width(layout: &Layout<'_>, firsts: &[u64], counts: &[u16], width: u32, r
         if layout.least as usize + i > width as usize {
             return;
         }
-        join_length(layout, firsts, counts, OneLength { more: i, top }, width, runs);
+        join_length(
+            layout,
+            firsts,
+            counts,
+            OneLength { more: i, top },
+            width,
+            runs,
+        );
         top = top.min(firsts[i]);
     }
 }
