@@ -37,8 +37,8 @@ use Rattle.arbiter_server.proofs.FoundLaws.{own_whole}
 use Rattle.arbiter_server.proofs.OpenedLaws.{good_unless}
 use Rattle.arbiter_server.proofs.Telling.{AllTell, IsHonest, answer_honest, on_and_on, still_on}
 use Rattle.arbiter_server.proofs.Turns.{GoesFrom, goes_nowhere}
-use Rattle.theorems.specs.HostFiles.{IfAnswers, IsOfSetup}
-use Rattle.theorems.specs.StoreHosts.{BeginsOver}
+use Rattle.theorems.specs.Interleavings.{IfAnswers}
+use Rattle.theorems.specs.StoreHosts.{BeginsOver, IsOfSetup}
 
 -- ---- what was told still holds
 

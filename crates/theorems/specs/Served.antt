@@ -8,7 +8,6 @@ use Rattle.std.specs.Prelude.{◌≡◌, ◌++◌, ℕ, List, [], ◌∷◌, Opt
 use Rattle.std.specs.List.{AllByRecursion}
 use Rattle.arbiter_core.specs.Setups.{SetupView}
 use Rattle.arbiter_server.specs.Acts.{Action, Unread, Strange, Refuses, Opens, Answers, Closes}
-use Rattle.arbiter_server.specs.Folders.{Keepers}
 use Rattle.arbiter_server.specs.Games.{CommonView, Fresh, GameStatus, Open, Shut}
 use Rattle.move_msg.specs.Heard.{heard_in}
 use Rattle.move_msg.specs.declared.arbiter_id.ArbiterId.{ArbiterId}
@@ -33,7 +32,6 @@ use Rattle.served_games.specs.PlaceKeepers.{Follows, PlaceKeeper, found_keeper, 
 use Rattle.served_games.specs.ServedGames.{AreOverLeft, OpenedGame, acts_in, all_acts, game_at, heard_in_turns}
 use Rattle.served_games.specs.Unasked.{Begins}
 use Rattle.theorems.specs.Interleavings.{IsHostOf, IsRunOfHost}
-use Rattle.theorems.specs.Listens.{AreAsHosts}
 
 -- ---- acts
 
@@ -119,12 +117,3 @@ ServedRunsAreHosted {F} {G} o facts =
     → AllByRecursion (IsRunAt game who) runs
     → IsDurableAfter (facts.places place game.stamp) game.stamp past (events_of_all runs)
     → AllByRecursion (λ r. IsHostedRun facts place (common r.old) game who r.unasked r.begun (heard_in_run r)) runs
-
--- ---- two of them, and one beside a host
-
-abbrev pub ServedAreWorlds : {G H : Type 0} → GamesFacts G → GamesFacts H → Type 0
-ServedAreWorlds facts others = (place : facts.Place) (its : others.Place) → AreAsHosts (place_keepers facts place) (place_keepers others its)
-
--- whichever of the two the server is
-abbrev pub ServedBesideHost : {G K : Type 0} → GamesFacts G → Keepers K → Type 0
-ServedBesideHost facts host = (place : facts.Place) → AreAsHosts (place_keepers facts place) host × AreAsHosts host (place_keepers facts place)
