@@ -1,7 +1,7 @@
 -- Exchanges one after another over a file, and what a start finds after each.
 use Rattle.std.proofs.Common.{◌≡◌, refl}
 use Rattle.arbiter_core.specs.Views.{View}
-use Rattle.arbiter_server.specs.OverFiles.{GoesOn}
+use Rattle.arbiter_server.specs.Lives.{GoesOn}
 use Rattle.arbiter_server.proofs.Telling.{still_on}
 
 -- the same arbiter, later

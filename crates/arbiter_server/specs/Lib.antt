@@ -1,6 +1,5 @@
 pub mod ServedLines
 pub mod Serving
-pub mod OverFiles
 pub mod Lives
 pub mod Inside
 pub mod GameFiles

@@ -30,8 +30,7 @@ use Rattle.arbiter_server.specs.Acts.{Action, Opening, Unread, Strange, Refuses,
 use Rattle.arbiter_server.specs.Folders.{Keepers}
 use Rattle.arbiter_server.specs.Games.{AnswersTo, ClosesTo, CommonView, Fresh, Goes, GoesByAct, GameStatus, Open, OpensTo, Shut, life_after}
 use Rattle.arbiter_server.specs.Hosts.{FindsWhatIsKept}
-use Rattle.arbiter_server.specs.Lives.{StillHolds}
-use Rattle.arbiter_server.specs.OverFiles.{GoesOn}
+use Rattle.arbiter_server.specs.Lives.{GoesOn, StillHolds}
 use Rattle.arbiter_server.specs.Serving.{outputs_of}
 use Rattle.arbiter_server.proofs.FoundLaws.{own_whole}
 use Rattle.arbiter_server.proofs.OpenedLaws.{good_unless}

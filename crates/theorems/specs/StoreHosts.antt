@@ -15,8 +15,7 @@ use Rattle.arbiter_server.specs.Acts.{Action, Unread, Strange, Refuses, Opens, A
 use Rattle.arbiter_server.specs.Folders.{Keepers}
 use Rattle.arbiter_server.specs.Games.{CommonView, Fresh, GameStatus, Open, Shut}
 use Rattle.arbiter_server.specs.Hosts.{CommitsEach}
-use Rattle.arbiter_server.specs.Lives.{StillHolds}
-use Rattle.arbiter_server.specs.OverFiles.{GoesOn, IsItsRecord}
+use Rattle.arbiter_server.specs.Lives.{GoesOn, IsItsRecord, StillHolds}
 use Rattle.arbiter_server.specs.Rounds.{EndSent, Round, replies_of_rounds}
 use Rattle.arbiter_server.specs.Serving.{outputs_of}
 use Rattle.arbiter_server.specs.StoreGames.{store_finds, store_keepers}
