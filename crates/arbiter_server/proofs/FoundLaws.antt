@@ -1,4 +1,4 @@
--- What a start finds in the kept file while an arbiter serves.
+-- A record of its own moves is whole.
 use Rattle.std.proofs.Common.{◌≡◌, List, Option, sym, ap, subst}
 use Rattle.std.proofs.Math.Seq.{take-length}
 use Rattle.board_core.specs.declared.moves.Move.{Move as Moves}

@@ -13,3 +13,4 @@ pub mod Turning
 pub mod Remembers
 pub mod LogKinds
 pub mod LogLaws
+pub mod Histories

@@ -1,11 +1,9 @@
--- What serving an opened arbiter leaves.
+-- A setup is good or not.
 use Rattle.std.proofs.Common.{◌≡◌, ◌≤◌, ◌<◌, true, false, length, inl, inr, ◌⊎◌, arith, ⊎_elim}
 use Rattle.std.specs.List.{list_all}
 use Rattle.std.proofs.lemmas.Bool.{both_ways, cases_Bool, cases_lt}
 use Rattle.move_msg.specs.Stamps.{is_printable}
 use Rattle.arbiter_core.specs.Setups.{SetupView, IsGood}
-
--- ---- a setup is good or not
 
 -- one that isn't bad is good
 pub good_unless : (setup : SetupView) → ((IsGood setup → ⊥) → ⊥) → IsGood setup

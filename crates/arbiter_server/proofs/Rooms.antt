@@ -1,4 +1,4 @@
--- What is found by a stamp after an entry is taken out or put in, and how many there are.
+-- What is found by a stamp after an entry is taken out.
 use Rattle.std.proofs.Common.{◌≡◌, ℕ, ◌-◌, cond, List, None}
 use Rattle.std.specs.List.{IsDistinct}
 use Rattle.std.specs.Map.{remove_entry, keys_of}

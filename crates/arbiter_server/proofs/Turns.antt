@@ -1,4 +1,4 @@
--- Exchanges one after another over a file, and what a start finds after each.
+-- An arbiter, and the same one later.
 use Rattle.std.proofs.Common.{◌≡◌, refl}
 use Rattle.arbiter_core.specs.Views.{View}
 use Rattle.arbiter_server.specs.Lives.{GoesOn}

@@ -1,4 +1,4 @@
--- What a folder of games tells and gives (this project's own).
+-- What a host knows of the place of its games (this project's own).
 use Rattle.std.specs.Prelude.{ℕ, List}
 use Rattle.arbiter_core.specs.Keeping.{KeeperFacts}
 use Rattle.arbiter_server.specs.declared.fault.OpenGameError.{OpenGameError}

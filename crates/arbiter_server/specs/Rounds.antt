@@ -1,4 +1,4 @@
--- Datagrams that are answered together (this project's own): what their games keep is committed, and then all answers are sent.
+-- Datagrams that are answered together (this project's own).
 use Rattle.std.specs.Prelude.{◌≡◌, Bool, true, false, List, [], ◌∷◌}
 use Rattle.std.specs.List.{flat_map}
 use Rattle.arbiter_server.specs.Acts.{DatagramReply}

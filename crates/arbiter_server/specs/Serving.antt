@@ -1,4 +1,4 @@
--- What serving makes of the datagrams that come (this project's own).
+-- What is told of an answer (this project's own).
 use Rattle.std.specs.Prelude.{ℕ, Bool, true, false, List, [], cond, Ok, Err}
 use Rattle.move_msg.specs.declared.message.Message.{Message}
 use Rattle.arbiter_core.specs.declared.fault.DeliverFault.{DeliverFault}
@@ -6,8 +6,6 @@ use Rattle.arbiter_core.specs.declared.fault.DeliverFault.TheVariants as deliver
 use Rattle.arbiter_core.specs.Recording.{Recorded, move_count}
 use Rattle.arbiter_core.specs.Delivers.{Exchange, Told}
 use Rattle.arbiter_server.specs.ServedLines.{heard_words, refused_datagram, refused_keeper}
-
--- ---- one datagram
 
 -- the messages of an answer: a refusal has none
 abbrev pub outputs_of : Told → List Message

@@ -1,5 +1,5 @@
--- A run of a server of games over one timeline (game_server), as one of a host (this project's own): so two of them, and one beside a host, come
--- under the theorem of two hosts. One that opens its game unasked, and may request moves first (`listen`, `--fetch`), is such a run too.
+-- A run of a server of games over one timeline (game_server), as one of a host (this project's own): so two of them come under the theorem of
+-- two hosts. One that opens its game unasked, and may request moves first (`listen`, `--fetch`), is such a run too.
 --
 -- What a run does of a game are its acts, by `OpenedGame` of served_games. Of these one is left out: the answer by which the game was opened
 -- unasked. Nobody sent that request, the answer changes nothing, and its reply goes to nobody. A request of the game's own is `Asks` of
@@ -8,6 +8,7 @@ use Rattle.std.specs.Prelude.{◌≡◌, ◌++◌, ℕ, List, [], ◌∷◌, Opt
 use Rattle.std.specs.List.{AllByRecursion}
 use Rattle.arbiter_core.specs.Setups.{SetupView}
 use Rattle.arbiter_server.specs.Acts.{Action, Unread, Strange, Refuses, Opens, Answers, Closes}
+use Rattle.arbiter_server.specs.Folders.{Keepers}
 use Rattle.arbiter_server.specs.Games.{CommonView, Fresh, GameStatus, Open, Shut}
 use Rattle.move_msg.specs.Heard.{heard_in}
 use Rattle.move_msg.specs.declared.arbiter_id.ArbiterId.{ArbiterId}
@@ -117,3 +118,9 @@ ServedRunsAreHosted {F} {G} o facts =
     → AllByRecursion (IsRunAt game who) runs
     → IsDurableAfter (facts.places place game.stamp) game.stamp past (events_of_all runs)
     → AllByRecursion (λ r. IsHostedRun facts place (common r.old) game who r.unasked r.begun (heard_in_run r)) runs
+
+-- ---- two of them
+
+-- so it is of what two servers know, each at a place
+abbrev pub OfTwoPlaces : {G H : Type 0} → GamesFacts G → GamesFacts H → (Keepers PlaceKeeper → Keepers PlaceKeeper → Type 0) → Type 0
+OfTwoPlaces facts others Law = (place : facts.Place) (its : others.Place) → Law (place_keepers facts place) (place_keepers others its)

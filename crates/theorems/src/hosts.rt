@@ -1,7 +1,7 @@
 //! A game at two servers: what both do of it is what two hosts do.
 
-ghost use Rattle.served_games.specs.PlaceKeepers.{place_keepers};
 ghost use Rattle.theorems.specs.Interleavings.{AcksAreFound, HostsAreWorlds, HostsTellTheTruth};
+ghost use Rattle.theorems.specs.Served.{OfTwoPlaces};
 
 use game_folder::Games;
 use timeline::System;
@@ -12,16 +12,16 @@ use timeline::System;
 /// The premises stand in `specs/Interleavings.antt`: which hosts these are, what is outside, and that the acts of each run go on from one
 /// another, as those of a server do (`served_are_hosted`).
 pub fn hosts_are_worlds<S: System, R: System, G: Games<S>, H: Games<R>>(_system: &S, _other: &R)
-    ensures { (place : (G.facts _system.now).Place) (its : (H.facts _other.now).Place) → HostsAreWorlds (place_keepers (G.facts _system.now) place) (place_keepers (H.facts _other.now) its) }
+    ensures { OfTwoPlaces (G.facts _system.now) (H.facts _other.now) (λ a b. HostsAreWorlds a b) }
 {}
 
 /// As many moves as a host ever acknowledged are found there, then and later, over all of its runs: the game's first ones.
 pub fn acks_are_found<S: System, R: System, G: Games<S>, H: Games<R>>(_system: &S, _other: &R)
-    ensures { (place : (G.facts _system.now).Place) (its : (H.facts _other.now).Place) → AcksAreFound (place_keepers (G.facts _system.now) place) (place_keepers (H.facts _other.now) its) }
+    ensures { OfTwoPlaces (G.facts _system.now) (H.facts _other.now) (λ a b. AcksAreFound a b) }
 {}
 
 /// What two such hosts tell of the game is true: while it is open, the record of its arbiter, of which each line tells, is the game's
 /// first moves, with the first verdict exactly at its ply.
 pub fn hosts_tell_the_truth<S: System, R: System, G: Games<S>, H: Games<R>>(_system: &S, _other: &R)
-    ensures { (place : (G.facts _system.now).Place) (its : (H.facts _other.now).Place) → HostsTellTheTruth (place_keepers (G.facts _system.now) place) (place_keepers (H.facts _other.now) its) }
+    ensures { OfTwoPlaces (G.facts _system.now) (H.facts _other.now) (λ a b. HostsTellTheTruth a b) }
 {}
