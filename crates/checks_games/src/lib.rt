@@ -10,6 +10,9 @@
 //!
 //! `positions`, `arbiters` and `comparing` are what these tests share. All stand in `src/tests/`. What other crates' tests use
 //! too stands in `check_helpers`, whose head says what is a test and how to run one. It has no definitions of its own.
+//!
+//! Tests of a server of games (`game_server`) stand in `tools/weather/rows`, and are run beside these without proof
+//! (`tools/weather/run_rows`).
 #![tactic(auto)]
 
 #[cfg(test)]
