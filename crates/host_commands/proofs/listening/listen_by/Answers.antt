@@ -1,17 +1,29 @@
-use Rattle.std.proofs.Common.{refl}
-use Rattle.answer_parts.specs.Lines.{refused_fen}
-use Rattle.host_commands.proofs.StepLaws.{goes_on_so, is_refused_so}
-use Rattle.host_commands.specs.Listens.{IsStart, ListensFrom, StartIs, StartIsNone}
+use Rattle.std.specs.Prelude.{Err}
+use Rattle.answer_parts.specs.Lines.{refusal_words}
+use Rattle.host_commands.proofs.StepLaws.{after_line, goes_on, is_refused, line_lost}
+use Rattle.host_commands.specs.Inside.Parts.{one_view}
+use Rattle.host_commands.specs.Listens.{LocksAndRuns, OpensOne}
+use Rattle.host_commands.specs.Steps.{AfterLine}
 use Rattle.host_commands.proofs.listening.listen_by.Goals as goal
-
-pub returns-in-Ok-clause-made : goal.returns-in-Ok-clause-made
-returns-in-Ok-clause-made g c =
-    let o = g.S.System.outside c.args.system.now in
-    let read = rw c.as_bytes.ensures.value at c.in-Ok.ensures in
-    goes_on_so o _ _ (IsStart c.args.task.now.start.now) (ListensFrom o c.args.task.now c.args.sources.now) c.in-Ok.start c.listen_from.result (StartIs c.in-Ok.start read.ok read.position refl refl) c.listen_from.ensures.made
 
 pub returns-in-Err-clause-made : goal.returns-in-Err-clause-made
 returns-in-Err-clause-made g c =
     let o = g.S.System.outside c.args.system.now in
-    let fault = rw c.as_bytes.ensures.value at c.in-Err.ensures.err in
-    is_refused_so o _ _ (IsStart c.args.task.now.start.now) (ListensFrom o c.args.task.now c.args.sources.now) (refused_fen c.in-Err.fault) c.print_refusal.result (StartIsNone c.in-Err.fault fault refl refl) c.print_refusal.ensures.made
+    let l = c.args.task.now in
+    is_refused o _ _ _ (OpensOne o l c.args.sources.now) (λ at. AfterLine at.line (LocksAndRuns o l at)) (refusal_words c.in-Err.refusal) c.print_refusal.result c.in-Err.ensures c.print_refusal.ensures.made
+
+pub returns-in-Ok-print_line-clause-made : goal.returns-in-Ok-print_line-clause-made
+returns-in-Ok-print_line-clause-made g c =
+    let o = g.S.System.outside c.args.system.now in
+    let l = c.args.task.now in
+    let at = one_view l c.in-Ok.opened in
+    goes_on o _ _ _ (OpensOne o l c.args.sources.now) (λ at. AfterLine at.line (LocksAndRuns o l at)) at c.lock_and_serve.result c.in-Ok.ensures
+    (after_line o _ _ _ at.line (LocksAndRuns o l at) tt c.lock_and_serve.result c.in-Ok-print_line.ensures.made c.lock_and_serve.ensures.made)
+
+pub returns-in-Err-print_line-clause-made : goal.returns-in-Err-print_line-clause-made
+returns-in-Err-print_line-clause-made g c =
+    let o = g.S.System.outside c.args.system.now in
+    let l = c.args.task.now in
+    let at = one_view l c.in-Ok.opened in
+    goes_on o _ _ _ (OpensOne o l c.args.sources.now) (λ at. AfterLine at.line (LocksAndRuns o l at)) at (Err c.in-Err-print_line.fault) c.in-Ok.ensures
+    (line_lost o _ _ at.line (LocksAndRuns o l at) c.in-Err-print_line.fault c.in-Err-print_line.ensures.made)
