@@ -17,7 +17,7 @@ use Rattle.host_commands.specs.Locks.{InUse, IsLocked, LocksFile, NoLock, NoRoom
 use Rattle.host_commands.specs.Notes.{IsNoted, MayNote, NotNoted, ThenMayNote}
 use Rattle.host_commands.specs.Outliving.{ReceivesNothing, is_receive}
 use Rattle.host_commands.specs.Ready.{IsReadyLine, LineIs, NoAddress, NoRoomForLine}
-use Rattle.host_commands.specs.Steps.{AndThen, BothDone, FirstRefused, IsGiven, Step}
+use Rattle.host_commands.specs.Steps.{AndThen, BothDone, FirstRefused, AllOpen, Step}
 use Rattle.host_commands.specs.Tables.{GathersTables, MakesManifest, ManifestIs, NoRoomForManifest, NoRoomForTables, ReadsNamed, TablesAre, TablesAreNot}
 use Rattle.arbiter_server.specs.GameFolders.{kept_path}
 use Rattle.system_io.specs.Disks.{DiskFacts}
@@ -77,7 +77,7 @@ noting_quiet first line events n quiet = subst ReceivesNothing (sym n.all) (quie
 abbrev pub IsQuietStep : {A : Type 0} → Step A → Type 0
 IsQuietStep {A} First = (r : Result A (List ℕ)) (events : List Event) → First r events → ReceivesNothing events
 
-given_quiet : {A : Type 0} (x : A) → IsQuietStep (IsGiven x)
+given_quiet : {A : Type 0} (x : A) → IsQuietStep (AllOpen x)
 given_quiet x r events p = none_quiet events p.1
 
 steps_quiet : {A B : Type 0} (First : Step A) (Next : A → Step B) → IsQuietStep First → ((a : A) → IsQuietStep (Next a)) → IsQuietStep (AndThen First Next)
@@ -179,7 +179,7 @@ module _ {T P F K S L : Type 0} (o : Outside T P F K S L) where
 
   kept_open_quiet : (folder : List ℕ) (where_kept : StoreForm) → IsQuietStep (OpensKept o folder where_kept)
   kept_open_quiet folder form.Files = given_quiet None
-  kept_open_quiet folder form.Sqlite = steps_quiet (OpensGames o folder) (λ games. IsGiven (Some games)) (opening_quiet folder) (λ games. given_quiet (Some games))
+  kept_open_quiet folder form.Sqlite = steps_quiet (OpensGames o folder) (λ games. AllOpen (Some games)) (opening_quiet folder) (λ games. given_quiet (Some games))
 
   pub start_quiet : (h : HostGames) (given : Given) → IsQuietStep (OpensAll o h given)
   start_quiet h given =

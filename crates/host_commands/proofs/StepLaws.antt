@@ -4,9 +4,9 @@ use Rattle.std.specs.Prelude.{Result, Ok, Err, IfOk, String, string_bytes}
 use Rattle.std.specs.Global.{Global}
 use Rattle.answer_parts.proofs.PrintLaws.{does_so, then_does, then_prints}
 use Rattle.answer_parts.specs.Printing.{AtFlush, AtWrite, IsCutIn, Performs, Prints}
-use Rattle.host_commands.specs.Inside.Parts.{GoesOut, TellsLine}
+use Rattle.host_commands.specs.Inside.Parts.{GoesOut, GoesOutIf}
 use Rattle.host_commands.specs.Notes.{IsNoted, MayNote, NotNoted, noted_if}
-use Rattle.host_commands.specs.Steps.{AfterLine, AfterText, AndThen, BothDone, Doing, FirstRefused, GoesOn, IsGiven, IsRefused, Step, TextFirst, ThenOrRefused, ThenRest, gone_out}
+use Rattle.host_commands.specs.Steps.{AfterLine, AfterText, AndThen, BothDone, Doing, FirstRefused, GoesOn, AllOpen, IsRefused, Step, TextFirst, ThenOrRefused, ThenRest, gone_out}
 use Rattle.system_io.specs.declared.output.WriteFault.{WriteFault}
 use Rattle.timeline.proofs.EventLaws.{adds_more, adds_none}
 use Rattle.timeline.specs.Events.{Event, Flushed, IsWritten, Noted, Refused, Wrote, by_result}
@@ -37,7 +37,7 @@ module _ {T P F K S L : Type 0} (o : Outside T P F K S L) where
   pub alone_so : {A B : Type 0} (a : T) (First : Step A) (Next : A → Step B) (words : List ℕ) → First (Err words) [] → AddsSome o a a (AndThen First Next (Err words))
   alone_so a First Next words first = ([], adds_none o a, FirstRefused words first refl)
 
-  pub given : {A : Type 0} (a : T) (x y : A) → x ≡ y → AddsSome o a a (IsGiven y (Ok x))
+  pub given : {A : Type 0} (a : T) (x y : A) → x ≡ y → AddsSome o a a (AllOpen y (Ok x))
   given a x y is = ([], adds_none o a, (ap Ok is, refl))
 
   pub goes_on : {A : Type 0} (a b c : T) (First : Step A) (Rest : A → Doing) (x : A) (r : Result ℕ WriteFault) → AddsSome o a b (First (Ok x)) → AddsSome o b c (Performs (Rest x) r) → AddsSome o a c (Performs (ThenOrRefused First Rest) r)
@@ -61,11 +61,11 @@ module _ {T P F K S L : Type 0} (o : Outside T P F K S L) where
   text_lost a b text Rest fault p = (p.0, p.1, (p.2.0, None, TextFirst p.2.2.0 refl, p.2.3))
 
   -- the same where there is one
-  pub after_line : (a b c : T) (line : Option (List ℕ)) (Rest : Doing) (x : Unit {0}) (r : Result ℕ WriteFault) → AddsSome o a b (Performs (TellsLine line) (Ok x)) → AddsSome o b c (Performs Rest r) → AddsSome o a c (Performs (AfterLine line Rest) r)
+  pub after_line : (a b c : T) (line : Option (List ℕ)) (Rest : Doing) (x : Unit {0}) (r : Result ℕ WriteFault) → AddsSome o a b (Performs (GoesOutIf line) (Ok x)) → AddsSome o b c (Performs Rest r) → AddsSome o a c (Performs (AfterLine line Rest) r)
   after_line a b c None Rest x r p q = then_does o a b c p.0 Rest Rest r (λ events status h. subst (λ (l : List Event). Rest (l ++ events) status) (sym p.2.0) h) p.1 q
   after_line a b c (Some text) Rest x r p q = after_text a b c text Rest x r p q
 
-  pub line_lost : (a b : T) (line : Option (List ℕ)) (Rest : Doing) (fault : WriteFault) → AddsSome o a b (Performs (TellsLine line) (Err fault)) → AddsSome o a b (Performs (AfterLine line Rest) (Err fault))
+  pub line_lost : (a b : T) (line : Option (List ℕ)) (Rest : Doing) (fault : WriteFault) → AddsSome o a b (Performs (GoesOutIf line) (Err fault)) → AddsSome o a b (Performs (AfterLine line Rest) (Err fault))
   line_lost a b None Rest fault p = absurd (no_cut p.2.0 p.0 p.2.2.0 p.2.3)
   line_lost a b (Some text) Rest fault p = text_lost a b text Rest fault p
 

@@ -29,7 +29,7 @@ use Rattle.host_commands.specs.Locks.{LocksFile, games_lock}
 use Rattle.host_commands.specs.Notes.{MayNote}
 use Rattle.host_commands.specs.Ready.{IsReadyLine}
 use Rattle.host_commands.specs.ServerRuns.{AnswersAll, IsServer, LosesLine}
-use Rattle.host_commands.specs.Steps.{AfterText, AndThen, Doing, IsGiven, Step, ThenOrRefused}
+use Rattle.host_commands.specs.Steps.{AfterText, AndThen, Doing, AllOpen, Step, ThenOrRefused}
 use Rattle.host_commands.specs.Tables.{GathersTables, MakesManifest, ReadsNamed}
 
 -- how many datagrams are answered together: with a store those that have come, since what their games keep is committed at once
@@ -110,8 +110,8 @@ module _ {T P F K S L : Type 0} (o : Outside T P F K S L) (folder : List ℕ) wh
 
   -- so it is where records are kept in a store, and not each in its file
   abbrev pub OpensKept : StoreForm → Step (Option (StoredGames S))
-  OpensKept form.Files = IsGiven None
-  OpensKept form.Sqlite = AndThen OpensGames (λ games. IsGiven (Some games))
+  OpensKept form.Files = AllOpen None
+  OpensKept form.Sqlite = AndThen OpensGames (λ games. AllOpen (Some games))
 
 -- ---- all of it
 
@@ -142,7 +142,7 @@ module _ {T P F K S L : Type 0} (o : Outside T P F K S L) (h : HostGames) where
       AndThen (IsReadyLine (o.port port).own)
       (λ line.
       AndThen (LocksFile o (games_lock h.games.now))
-      (λ held. AndThen (OpensKept o h.games.now h.store) (λ store. IsGiven (opened_host (length given.files) (common_for h set manifest) port line store))))))))
+      (λ held. AndThen (OpensKept o h.games.now h.store) (λ store. AllOpen (opened_host (length given.files) (common_for h set manifest) port line store))))))))
 
   -- the games of the folder run, with a file for each record
   pub record RunsFiles (at : OpenedHost P S) (events : List Event) (status : Option ℕ) : Type 0 where

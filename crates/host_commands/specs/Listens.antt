@@ -30,7 +30,7 @@ use Rattle.host_commands.specs.Binds.{BindsPort}
 use Rattle.host_commands.specs.Locks.{LocksFile, kept_lock}
 use Rattle.host_commands.specs.Ready.{MakesLineIf}
 use Rattle.host_commands.specs.ServerRuns.{AnswersAll, IsServer}
-use Rattle.host_commands.specs.Steps.{AfterLine, AndThen, Doing, IsGiven, Step, ThenOrRefused}
+use Rattle.host_commands.specs.Steps.{AfterLine, AndThen, Doing, AllOpen, Step, ThenOrRefused}
 use Rattle.host_commands.specs.Tables.{GathersTables, MakesManifest, ReadsNamed}
 
 -- ---- what is served
@@ -134,7 +134,7 @@ module _ {T P F K S L : Type 0} (o : Outside T P F K S L) (l : Listen) where
       AndThen (MakesManifest given)
       (λ manifest.
       AndThen (BindsPort o l.bind.now l.to.now)
-      (λ port. AndThen (MakesLineIf l.ready (o.port port).own) (λ line. IsGiven (opened_one (served_of l start set manifest) port line))))))
+      (λ port. AndThen (MakesLineIf l.ready (o.port port).own) (λ line. AllOpen (opened_one (served_of l start set manifest) port line))))))
 
   -- under the lock of its file the arbiter of the game runs
   abbrev pub LocksAndRuns : OpenedOne P → Doing

@@ -6,7 +6,7 @@ use Rattle.arbiter_server.specs.ServedLines.{refused_port}
 use Rattle.line_teller.specs.ToldLines.{refused_memory}
 use Rattle.move_msg.specs.TextLines.{ended}
 use Rattle.timeline.specs.Events.{Event}
-use Rattle.host_commands.specs.Steps.{AndThen, IsGiven, Step}
+use Rattle.host_commands.specs.Steps.{AndThen, AllOpen, Step}
 
 -- the line, with its line feed; or the address isn't known, or memory for the line was refused
 pub data IsReadyLine (own : Option SocketAddr) (result : Result (List ℕ) (List ℕ)) (events : List Event) : Type 0 where
@@ -16,5 +16,5 @@ pub data IsReadyLine (own : Option SocketAddr) (result : Result (List ℕ) (List
 
 -- the same where it is wanted, and none where it isn't
 abbrev pub MakesLineIf : Bool → Option SocketAddr → Step (Option (List ℕ))
-MakesLineIf false own = IsGiven None
-MakesLineIf true own = AndThen (IsReadyLine own) (λ line. IsGiven (Some line))
+MakesLineIf false own = AllOpen None
+MakesLineIf true own = AndThen (IsReadyLine own) (λ line. AllOpen (Some line))

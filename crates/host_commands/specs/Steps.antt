@@ -12,9 +12,9 @@ Doing = List Event → Option ℕ → Type 0
 abbrev pub Step : Type 0 → Type 1
 Step A = Result A (List ℕ) → List Event → Type 0
 
--- nothing more happens, and this is what was given
-abbrev pub IsGiven : {A : Type 0} → A → Step A
-IsGiven a result events = (result ≡ Ok a) × (events ≡ [])
+-- nothing more happens: this is what was opened
+abbrev pub AllOpen : {A : Type 0} → A → Step A
+AllOpen a result events = (result ≡ Ok a) × (events ≡ [])
 
 -- A start, as a list of steps: first a step, and then those that follow from what it gave. Or it is refused, and then all else is by the same
 -- words, and nothing else happens.

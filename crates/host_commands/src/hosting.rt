@@ -205,7 +205,7 @@ fn serve_kept<S: System>(
         tables,
         manifest,
         mut port,
-        line: _,
+        line: _line,
         held: _held,
         store,
     } = opened;

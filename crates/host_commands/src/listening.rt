@@ -214,7 +214,7 @@ fn lock_and_serve<S: System>(
         tables,
         manifest,
         mut port,
-        line: _,
+        line: _line,
     } = opened;
     let _held = match lock(alloc, system, timeline, task.kept, BESIDE_KEPT) {
         Ok(held) => held,

@@ -3,7 +3,7 @@
 ghost use Rattle.std.specs.Prelude.{◌≡◌, [], string_bytes, IfOk, OnErr};
 ghost use Rattle.answer_parts.specs.Lines.{ready_words};
 ghost use Rattle.answer_parts.specs.Printing.{OutputFails, Performs};
-ghost use Rattle.host_commands.specs.Inside.Parts.{GivesReadyLine, GoesOut, TellsLine, line_if_taken, line_in};
+ghost use Rattle.host_commands.specs.Inside.Parts.{GivesReadyLine, GoesOut, GoesOutIf, line_if_taken, line_in};
 ghost use Rattle.host_commands.specs.Ready.{MakesLineIf};
 ghost use Rattle.move_msg.specs.TextLines.{ended};
 ghost use Rattle.timeline.specs.Outsides.{AddsSome};
@@ -78,7 +78,7 @@ pub(crate) fn print_line<S: System>(
     timeline: &mut S::Timeline,
     line: &Option<String>,
 ) -> Result<(), WriteFault>
-    ensures made { AddsSome (S.outside system.now) timeline.old timeline.new (Performs (TellsLine (line_in line.now)) result) }
+    ensures made { AddsSome (S.outside system.now) timeline.old timeline.new (Performs (GoesOutIf (line_in line.now)) result) }
     ensures cause { OnErr result (OutputFails (S.outside system.now)) }
 {
     match line {

@@ -30,9 +30,9 @@ abbrev pub GoesOut : List ℕ → List Event → Option (Unit {0}) → Type 0
 GoesOut text events is = (events ≡ gone_out text) × (is ≡ Some tt)
 
 -- where there is one
-abbrev pub TellsLine : Option (List ℕ) → List Event → Option (Unit {0}) → Type 0
-TellsLine None events is = (events ≡ []) × (is ≡ Some tt)
-TellsLine (Some text) events is = GoesOut text events is
+abbrev pub GoesOutIf : Option (List ℕ) → List Event → Option (Unit {0}) → Type 0
+GoesOutIf None events is = (events ≡ []) × (is ≡ Some tt)
+GoesOutIf (Some text) events is = GoesOut text events is
 
 abbrev pub line_in : Option (String Global) → Option (List ℕ)
 line_in None = None
