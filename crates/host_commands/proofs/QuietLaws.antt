@@ -10,14 +10,14 @@ use Rattle.command_line.specs.declared.words.numbers.StoreForm.{StoreForm}
 use Rattle.command_line.specs.declared.words.numbers.StoreForm.TheVariants as form
 use Rattle.host_commands.specs.Binds.{BindsPort, IsBound, NoRoomForAddresses, NoRoomToBind, Unbound}
 use Rattle.game_status.specs.StoreReadings.{store_path}
-use Rattle.host_commands.specs.Hosts.{IsKept, KeepsInStore, NoImport, OpensAll, OpensGames, OpensKept}
+use Rattle.host_commands.specs.Hosts.{IsKept, KeepsInStore, NoImport, StartsHost, OpensGames, OpensStoreIf}
 use Rattle.host_commands.specs.Imports.{AllImported, AllPut, AllSeen, FailsToLook, FileUnread, FolderIsNot, ImportsRecords, InFile, InNeither, InStore, Kept, LeftNotNoted, LeftNoted, ListsAndLooks, Look, LooksAndPuts, LooksAtAll, NoRoomFor, NoRoomForFile, NoRoomForStamps, NoRoomForStore, NoRoomToRead, NoneComes, NonePut, NotPut, NotesAllLeft, NotesLeft, OneFails, OneUnseen, OpensStore, PutsComing, StoreIs, StoreIsNot, all_look_events, file_events, look_events}
 use Rattle.host_commands.specs.Listings.{IsBarred, IsListed, IsNotListed, ListsGames}
 use Rattle.host_commands.specs.Locks.{InUse, IsLocked, LocksFile, NoLock, NoRoomForPath, NoRoomToLock, games_lock}
 use Rattle.host_commands.specs.Notes.{IsNoted, MayNote, NotNoted, ThenMayNote}
 use Rattle.host_commands.specs.Outliving.{ReceivesNothing, is_receive}
 use Rattle.host_commands.specs.Ready.{IsReadyLine, LineIs, NoAddress, NoRoomForLine}
-use Rattle.host_commands.specs.Steps.{AndThen, BothDone, FirstRefused, AllOpen, Step}
+use Rattle.host_commands.specs.Steps.{AndThen, BothDone, FirstIsRefused, AllOpen, Step}
 use Rattle.host_commands.specs.Tables.{GathersTables, MakesManifest, ManifestIs, NoRoomForManifest, NoRoomForTables, ReadsNamed, TablesAre, TablesAreNot}
 use Rattle.arbiter_server.specs.GameFolders.{kept_path}
 use Rattle.system_io.specs.Disks.{DiskFacts}
@@ -82,7 +82,7 @@ given_quiet x r events p = none_quiet events p.1
 
 steps_quiet : {A B : Type 0} (First : Step A) (Next : A → Step B) → IsQuietStep First → ((a : A) → IsQuietStep (Next a)) → IsQuietStep (AndThen First Next)
 steps_quiet First Next p q r events (BothDone a first rest does next is) = then_quiet first rest events (p (Ok a) first does) (q a r rest next) is
-steps_quiet First Next p q r events (FirstRefused words does told) = p (Err words) events does
+steps_quiet First Next p q r events (FirstIsRefused words does told) = p (Err words) events does
 
 gathering_quiet : (given : Given) (cache : ℕ) → IsQuietStep (GathersTables given cache)
 gathering_quiet given cache r events (TablesAre set are kept told none) = none_quiet events none
@@ -177,11 +177,11 @@ module _ {T P F K S L : Type 0} (o : Outside T P F K S L) where
   opening_quiet : (folder : List ℕ) → IsQuietStep (OpensGames o folder)
   opening_quiet folder = steps_quiet (OpensStore o (store_path folder)) (KeepsInStore o folder) (store_quiet (store_path folder)) (keeping_quiet folder)
 
-  kept_open_quiet : (folder : List ℕ) (where_kept : StoreForm) → IsQuietStep (OpensKept o folder where_kept)
+  kept_open_quiet : (folder : List ℕ) (where_kept : StoreForm) → IsQuietStep (OpensStoreIf o folder where_kept)
   kept_open_quiet folder form.Files = given_quiet None
   kept_open_quiet folder form.Sqlite = steps_quiet (OpensGames o folder) (λ games. AllOpen (Some games)) (opening_quiet folder) (λ games. given_quiet (Some games))
 
-  pub start_quiet : (h : HostGames) (given : Given) → IsQuietStep (OpensAll o h given)
+  pub start_quiet : (h : HostGames) (given : Given) → IsQuietStep (StartsHost o h given)
   start_quiet h given =
       steps_quiet (GathersTables given h.cache) _ (gathering_quiet given h.cache)
       (λ set. steps_quiet (ListsGames o.disk h.games.now h.store) _ (listing_quiet h.games.now h.store)
@@ -189,7 +189,7 @@ module _ {T P F K S L : Type 0} (o : Outside T P F K S L) where
       (λ manifest. steps_quiet (BindsPort o h.bind.now h.to.now) _ (bind_quiet h.bind.now h.to.now)
       (λ port. steps_quiet (IsReadyLine (o.port port).own) _ (line_quiet (o.port port).own)
       (λ line. steps_quiet (LocksFile o (games_lock h.games.now)) _ (lock_quiet (games_lock h.games.now))
-      (λ held. steps_quiet (OpensKept o h.games.now h.store) _ (kept_open_quiet h.games.now h.store) (λ store. given_quiet _)))))))
+      (λ held. steps_quiet (OpensStoreIf o h.games.now h.store) _ (kept_open_quiet h.games.now h.store) (λ store. given_quiet _)))))))
 
 -- ---- what the words name
 

@@ -6,7 +6,7 @@ use Rattle.answer_parts.proofs.PrintLaws.{does_so, then_does, then_prints}
 use Rattle.answer_parts.specs.Printing.{AtFlush, AtWrite, IsCutIn, Performs, Prints}
 use Rattle.host_commands.specs.Inside.Parts.{GoesOut, GoesOutIf}
 use Rattle.host_commands.specs.Notes.{IsNoted, MayNote, NotNoted, noted_if}
-use Rattle.host_commands.specs.Steps.{AfterLine, AfterText, AndThen, BothDone, Doing, FirstRefused, GoesOn, AllOpen, IsRefused, Step, TextFirst, ThenOrRefused, ThenRest, gone_out}
+use Rattle.host_commands.specs.Steps.{AfterLine, AfterText, AndThen, BothDone, Doing, FirstIsRefused, GoesOn, AllOpen, IsRefused, Step, TextFirst, ThenOrRefused, ThenRest, gone_out}
 use Rattle.system_io.specs.declared.output.WriteFault.{WriteFault}
 use Rattle.timeline.proofs.EventLaws.{adds_more, adds_none}
 use Rattle.timeline.specs.Events.{Event, Flushed, IsWritten, Noted, Refused, Wrote, by_result}
@@ -32,10 +32,10 @@ module _ {T P F K S L : Type 0} (o : Outside T P F K S L) where
 
   -- or it is refused
   pub alone : {A B : Type 0} (a b : T) (First : Step A) (Next : A → Step B) (words : List ℕ) → AddsSome o a b (First (Err words)) → AddsSome o a b (AndThen First Next (Err words))
-  alone a b First Next words p = (p.0, p.1, FirstRefused words p.2 refl)
+  alone a b First Next words p = (p.0, p.1, FirstIsRefused words p.2 refl)
 
   pub alone_so : {A B : Type 0} (a : T) (First : Step A) (Next : A → Step B) (words : List ℕ) → First (Err words) [] → AddsSome o a a (AndThen First Next (Err words))
-  alone_so a First Next words first = ([], adds_none o a, FirstRefused words first refl)
+  alone_so a First Next words first = ([], adds_none o a, FirstIsRefused words first refl)
 
   pub given : {A : Type 0} (a : T) (x y : A) → x ≡ y → AddsSome o a a (AllOpen y (Ok x))
   given a x y is = ([], adds_none o a, (ap Ok is, refl))

@@ -109,9 +109,9 @@ module _ {T P F K S L : Type 0} (o : Outside T P F K S L) (folder : List ℕ) wh
   OpensGames = AndThen OpensIt KeepsInStore
 
   -- so it is where records are kept in a store, and not each in its file
-  abbrev pub OpensKept : StoreForm → Step (Option (StoredGames S))
-  OpensKept form.Files = AllOpen None
-  OpensKept form.Sqlite = AndThen OpensGames (λ games. AllOpen (Some games))
+  abbrev pub OpensStoreIf : StoreForm → Step (Option (StoredGames S))
+  OpensStoreIf form.Files = AllOpen None
+  OpensStoreIf form.Sqlite = AndThen OpensGames (λ games. AllOpen (Some games))
 
 -- ---- all of it
 
@@ -129,8 +129,8 @@ opened_host read common port line store = record { read = read; common = common;
 
 module _ {T P F K S L : Type 0} (o : Outside T P F K S L) (h : HostGames) where
   -- what is opened by what was read, one after the other
-  abbrev pub OpensAll : Given → Step (OpenedHost P S)
-  OpensAll given =
+  abbrev pub StartsHost : Given → Step (OpenedHost P S)
+  StartsHost given =
       AndThen (GathersTables given h.cache)
       (λ set.
       AndThen (ListsGames o.disk h.games.now h.store)
@@ -142,7 +142,7 @@ module _ {T P F K S L : Type 0} (o : Outside T P F K S L) (h : HostGames) where
       AndThen (IsReadyLine (o.port port).own)
       (λ line.
       AndThen (LocksFile o (games_lock h.games.now))
-      (λ held. AndThen (OpensKept o h.games.now h.store) (λ store. AllOpen (opened_host (length given.files) (common_for h set manifest) port line store))))))))
+      (λ held. AndThen (OpensStoreIf o h.games.now h.store) (λ store. AllOpen (opened_host (length given.files) (common_for h set manifest) port line store))))))))
 
   -- the games of the folder run, with a file for each record
   pub record RunsFiles (at : OpenedHost P S) (events : List Event) (status : Option ℕ) : Type 0 where
@@ -165,7 +165,7 @@ module _ {T P F K S L : Type 0} (o : Outside T P F K S L) (h : HostGames) where
 
   -- the line goes out before that
   abbrev pub HostsBy : Given → Doing
-  HostsBy given = ThenOrRefused (OpensAll given) (λ at. AfterText at.line (NotesAndRuns at))
+  HostsBy given = ThenOrRefused (StartsHost given) (λ at. AfterText at.line (NotesAndRuns at))
 
   -- what the words name is read before all else
   abbrev pub Hosts : Doing

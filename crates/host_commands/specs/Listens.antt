@@ -125,8 +125,8 @@ opened_one served port line = record { served = served; port = port; line = line
 
 module _ {T P F K S L : Type 0} (o : Outside T P F K S L) (l : Listen) where
   -- what is opened by what was read, one after the other
-  abbrev pub OpensOne : Given → Step (OpenedOne P)
-  OpensOne given =
+  abbrev pub StartsOne : Given → Step (OpenedOne P)
+  StartsOne given =
       AndThen (IsStart l.start.now)
       (λ start.
       AndThen (GathersTables given usual_cache)
@@ -142,7 +142,7 @@ module _ {T P F K S L : Type 0} (o : Outside T P F K S L) (l : Listen) where
 
   -- the line goes out before that
   abbrev pub ListensBy : Given → Doing
-  ListensBy given = ThenOrRefused (OpensOne given) (λ at. AfterLine at.line (LocksAndRuns at))
+  ListensBy given = ThenOrRefused (StartsOne given) (λ at. AfterLine at.line (LocksAndRuns at))
 
   -- what the words name is read before all else
   abbrev pub Listens : Doing

@@ -16,12 +16,12 @@ Step A = Result A (List ℕ) → List Event → Type 0
 abbrev pub AllOpen : {A : Type 0} → A → Step A
 AllOpen a result events = (result ≡ Ok a) × (events ≡ [])
 
--- A start, as a list of steps: first a step, and then those that follow from what it gave. Or it is refused, and then all else is by the same
--- words, and nothing else happens.
+-- A start, as a list of steps: the first one, and then those that follow from what it gave. Where one of them is refused, the start is by the
+-- same words, and none behind it is done.
 module _ {A B : Type 0} (First : Step A) (Next : A → Step B) where
   pub data AndThen (result : Result B (List ℕ)) (events : List Event) : Type 0 where
     BothDone : (a : A) (first rest : List Event) → First (Ok a) first → Next a result rest → events ≡ first ++ rest → AndThen result events
-    FirstRefused : (words : List ℕ) → First (Err words) events → result ≡ Err words → AndThen result events
+    FirstIsRefused : (words : List ℕ) → First (Err words) events → result ≡ Err words → AndThen result events
 
 -- these words are written, and nothing else
 abbrev pub refused_by : List ℕ → List Event

@@ -6,7 +6,7 @@ ghost use Rattle.answer_parts.specs.Printing.{OutputFails};
 ghost use Rattle.arbiter_server.specs.Games.{common_with};
 ghost use Rattle.game_server.specs.Printing.{KnowsLines, OfGames, form_in};
 ghost use Rattle.game_server.specs.Seats.{AreSeats};
-ghost use Rattle.host_commands.specs.Hosts.{Hosts, HostsBy, OpensAll, common_for, tables_line, together_of};
+ghost use Rattle.host_commands.specs.Hosts.{Hosts, HostsBy, StartsHost, common_for, tables_line, together_of};
 ghost use Rattle.host_commands.specs.Inside.HostParts.{AnswersIn, GoesOnIn, HostDoes, KeptIn, RunsIn, all_opened};
 ghost use Rattle.host_commands.specs.Notes.{MayNote};
 ghost use Rattle.host_commands.specs.Outliving.{PerformsOutliving};
@@ -169,7 +169,7 @@ fn open_all<'a, 'f, S: System>(
     system: &S,
     timeline: &mut S::Timeline,
 ) -> Result<Opened<'a, S::Port, S::Lock, StoreGames<'f, S>>, Refusal>
-    ensures { AddsSome (S.outside system.now) timeline.old timeline.new (OpensAll (S.outside system.now) task.now sources.now (all_opened task.now result)) }
+    ensures { AddsSome (S.outside system.now) timeline.old timeline.new (StartsHost (S.outside system.now) task.now sources.now (all_opened task.now result)) }
 {
     let tables = tables_of(alloc, sources, task.cache)?;
     list_games(alloc, system, timeline, task.games, task.store)?;

@@ -5,7 +5,7 @@ ghost use Rattle.answer_parts.specs.Lines.{refusal_words};
 ghost use Rattle.answer_parts.specs.Printing.{OutputFails, Performs};
 ghost use Rattle.game_server.specs.Seats.{AreSeats};
 ghost use Rattle.host_commands.specs.Inside.Parts.{AsksIfIn, DoesIn, LocksIn, OpensAndAnswersIn, RunsIn, one_opened, served_one};
-ghost use Rattle.host_commands.specs.Listens.{IsStart, Listens, ListensBy, OpensOne, game_of, served_of, unopened_refusal};
+ghost use Rattle.host_commands.specs.Listens.{IsStart, Listens, ListensBy, StartsOne, game_of, served_of, unopened_refusal};
 ghost use Rattle.host_commands.specs.Notes.{in_words};
 ghost use Rattle.timeline.specs.Outsides.{AddsSome, HeardNothing};
 
@@ -182,7 +182,7 @@ fn open_one<'a, S: System>(
     system: &S,
     timeline: &mut S::Timeline,
 ) -> Result<Opened<'a, S::Port>, Refusal>
-    ensures { AddsSome (S.outside system.now) timeline.old timeline.new (OpensOne (S.outside system.now) task.now sources.now (one_opened task.now result)) }
+    ensures { AddsSome (S.outside system.now) timeline.old timeline.new (StartsOne (S.outside system.now) task.now sources.now (one_opened task.now result)) }
 {
     let start = start_of(task)?;
     let tables = tables_of(alloc, sources, CacheSize::usual())?;

@@ -3,7 +3,7 @@
 ghost use Rattle.std.specs.Prelude.{string_bytes, IfOk};
 ghost use Rattle.arbiter_server.specs.GameFolders.{kept_path};
 ghost use Rattle.game_status.specs.StoreReadings.{store_path};
-ghost use Rattle.host_commands.specs.Hosts.{KeepsInStore, OpensGames, OpensKept};
+ghost use Rattle.host_commands.specs.Hosts.{KeepsInStore, OpensGames, OpensStoreIf};
 ghost use Rattle.host_commands.specs.Imports.{IsLeftLine, NotesAllLeft, NotesLeft, OpensStore};
 ghost use Rattle.host_commands.specs.Notes.{in_words};
 ghost use Rattle.system_io.specs.Records.{IsSettled};
@@ -135,7 +135,7 @@ pub(crate) fn open_kept<'f, S: System>(
     folder: &'f str,
     form: StoreForm,
 ) -> Result<Option<StoreGames<'f, S>>, Refusal>
-    ensures { AddsSome (S.outside system.now) timeline.old timeline.new (OpensKept (S.outside system.now) folder.entry.now form (in_words result)) }
+    ensures { AddsSome (S.outside system.now) timeline.old timeline.new (OpensStoreIf (S.outside system.now) folder.entry.now form (in_words result)) }
 {
     match form {
         StoreForm::Files => Ok(None),
