@@ -10,7 +10,7 @@ use Rattle.command_line.specs.declared.words.numbers.StoreForm.{StoreForm}
 use Rattle.command_line.specs.declared.words.numbers.StoreForm.TheVariants as form
 use Rattle.host_commands.specs.Binds.{BindsPort, IsBound, NoRoomForAddresses, NoRoomToBind, Unbound}
 use Rattle.game_status.specs.StoreReadings.{store_path}
-use Rattle.host_commands.specs.Hosts.{IsKept, KeepsInStore, NoImport, StartsHost, OpensGames, OpensStoreIf}
+use Rattle.host_commands.specs.Hosts.{KeepsInStore, NotesAndKeeps, OpensGames, OpensStoreIf, StartsHost}
 use Rattle.host_commands.specs.Imports.{AllImported, AllPut, AllSeen, FailsToLook, FileUnread, FolderIsNot, ImportsRecords, InFile, InNeither, InStore, Kept, LeftNotNoted, LeftNoted, ListsAndLooks, Look, LooksAndPuts, LooksAtAll, NoRoomFor, NoRoomForFile, NoRoomForStamps, NoRoomForStore, NoRoomToRead, NoneComes, NonePut, NotPut, NotesAllLeft, NotesLeft, OneFails, OneUnseen, OpensStore, PutsComing, StoreIs, StoreIsNot, all_look_events, file_events, look_events}
 use Rattle.host_commands.specs.Listings.{IsBarred, IsListed, IsNotListed, ListsGames}
 use Rattle.host_commands.specs.Locks.{InUse, IsLocked, LocksFile, NoLock, NoRoomForPath, NoRoomToLock, games_lock}
@@ -171,8 +171,7 @@ module _ {T P F K S L : Type 0} (o : Outside T P F K S L) where
   all_left_quiet folder (stamp ∷ stamps) events p = then_quiet p.0 p.1 events (left_quiet (kept_path folder stamp) p.0 p.2) (all_left_quiet folder stamps p.1 p.3) p.4
 
   keeping_quiet : (folder : List ℕ) (store : S) → IsQuietStep (KeepsInStore o folder store)
-  keeping_quiet folder store r events (NoImport words imports told) = importing_quiet folder store _ events imports
-  keeping_quiet folder store r events (IsKept now its told) = then_quiet its.importing its.noting events (importing_quiet folder store _ its.importing its.imports) (all_left_quiet folder now.left its.noting its.notes) its.all
+  keeping_quiet folder store = steps_quiet (ImportsRecords o folder store) (NotesAndKeeps o folder) (importing_quiet folder store) (λ now r events p. all_left_quiet folder now.left events p.1)
 
   opening_quiet : (folder : List ℕ) → IsQuietStep (OpensGames o folder)
   opening_quiet folder = steps_quiet (OpensStore o (store_path folder)) (KeepsInStore o folder) (store_quiet (store_path folder)) (keeping_quiet folder)

@@ -86,27 +86,17 @@ abbrev pub stored_games : {S : Type 0} → List ℕ → S → List (List ℕ) �
 stored_games folder store left = record { folder = folder; store = store; noted = []; left = left; loss = None }
 
 module _ {T P F K S L : Type 0} (o : Outside T P F K S L) (folder : List ℕ) where
-  module _ (store : S) where
-    -- the records of files go over into a store that hasn't them, and it is noted which files hold none
-    pub record ImportsAndNotes (now : Imported S) (events : List Event) : Type 0 where
-      pub importing : List Event
-      pub noting : List Event
-      pub imports : ImportsRecords o folder store (Ok now) importing
-      pub notes : NotesAllLeft folder now.left noting
-      pub all : events ≡ importing ++ noting
+  -- it is noted which files hold none of their games' records, and what games keep is put into the store from then on
+  abbrev pub NotesAndKeeps : Imported S → Step (StoredGames S)
+  NotesAndKeeps now result events = (result ≡ Ok (stored_games folder now.store now.left)) × NotesAllLeft folder now.left events
 
-    -- what games keep is put there from then on; or why records don't go over
-    pub data KeepsInStore (result : Result (StoredGames S) (List ℕ)) (events : List Event) : Type 0 where
-      NoImport : (words : List ℕ) → ImportsRecords o folder store (Err words) events → result ≡ Err words → KeepsInStore result events
-      IsKept : (now : Imported S) → ImportsAndNotes now events → result ≡ Ok (stored_games folder now.store now.left) → KeepsInStore result events
+  -- before that the records of files go over into a store that hasn't them
+  abbrev pub KeepsInStore : S → Step (StoredGames S)
+  KeepsInStore store = AndThen (ImportsRecords o folder store) NotesAndKeeps
 
   -- the store of the folder is opened before
-  abbrev pub OpensIt : Step S
-  OpensIt = OpensStore o (store_path folder)
-
-  -- and then what games keep is put there
   abbrev pub OpensGames : Step (StoredGames S)
-  OpensGames = AndThen OpensIt KeepsInStore
+  OpensGames = AndThen (OpensStore o (store_path folder)) KeepsInStore
 
   -- so it is where records are kept in a store, and not each in its file
   abbrev pub OpensStoreIf : StoreForm → Step (Option (StoredGames S))
