@@ -1,5 +1,5 @@
 -- Arbiters of the games of a folder, one step after another.
-use Rattle.std.proofs.Common.{◌≡◌, ◌++◌, ◌∷◌, [], ℕ, true, List, Option, Some, None, ap, refl, subst, sym}
+use Rattle.std.proofs.Common.{◌≡◌, ◌++◌, ◌∷◌, [], ℕ, true, List, Option, ap, refl, subst}
 use Rattle.std.specs.Prelude.{Result, IsOk}
 use Rattle.answer_parts.proofs.PrintLaws.{does_so, then_does}
 use Rattle.answer_parts.specs.Printing.{Performs}
@@ -8,7 +8,6 @@ use Rattle.arbiter_server.specs.declared.line_log.LogForm.TheVariants.{Nothing}
 use Rattle.command_line.specs.declared.commands.host.HostGames.{HostGames}
 use Rattle.game_folder.specs.FolderGames.{folder_games_facts}
 use Rattle.game_folder.specs.Holdings.{GamesFacts}
-use Rattle.game_folder.specs.StoreGames.{StoredGames, store_games_facts}
 use Rattle.game_folder.specs.declared.folder_games.FolderGames.{FolderGames}
 use Rattle.game_server.specs.Printing.{OfGames}
 use Rattle.game_server.specs.declared.server.Server.{Server}
@@ -16,7 +15,7 @@ use Rattle.system_io.specs.declared.output.WriteFault.{WriteFault}
 use Rattle.system_io.specs.declared.recipient.Recipient.{Recipient}
 use Rattle.timeline.specs.Events.{Event, Noted}
 use Rattle.timeline.specs.Outsides.{Adds, AddsSome, Outside}
-use Rattle.host_commands.proofs.OutlivingLaws.{done_outlives, then_outlives}
+use Rattle.host_commands.proofs.OutlivingLaws.{done_outlives, outlives_so, then_outlives}
 use Rattle.host_commands.proofs.QuietLaws.{note_quiet}
 use Rattle.host_commands.specs.Hosts.{AnswersLogged, Logged, NotesAndRuns, OpenedHost, RunsFiles, RunsGames, RunsKept, Unlogged, log_lost, tables_line}
 use Rattle.host_commands.specs.Inside.HostParts.{GoesOnUnlogged, HostDoes}
@@ -43,22 +42,21 @@ module _ {T P F K S L G : Type 0} (o : Outside T P F K S L) (facts : GamesFacts 
         so : (events : List Event) (status : Option ℕ) → GoesOnUnlogged o facts most h.datagrams to mid events status → AnswersLogged o facts h most to server (p.0 ++ events) status
         so events status u = Unlogged outlives (record { mid = mid; first = p.0; rest = u.rest; loses = p.2; answers = u.answers; all = ap (λ (e : List Event). p.0 ++ e) u.all })
 
-module _ {T P F K S L : Type 0} (o : Outside T P F K S L) (h : HostGames) (at : OpenedHost P S) (a b c : T) (common : CommonView) (r : Result ℕ WriteFault) where
-  -- the tables are noted, and the games run, with a file for each record
-  pub files_so : (games : FolderGames) → at.store ≡ None → games.folder.now ≡ h.games.now → common ≡ at.common → AddsSome o a b (MayNote (tables_line at.read)) → HostDoes o h (RunsGames o (folder_games_facts o) h common games at.port) b c r
-      → HostDoes o h (NotesAndRuns o h at) a c r
-  files_so games none folder is p q = then_outlives o h a b c p.0 (RunsGames o (folder_games_facts o) h common games at.port) (NotesAndRuns o h at) r so (note_quiet (tables_line at.read) p.0 p.2) p.1 q
-    where
-      so : (events : List Event) (status : Option ℕ) → RunsGames o (folder_games_facts o) h common games at.port events status → NotesAndRuns o h at (p.0 ++ events) status
-      so events status runs =
-          let its : RunsFiles o h at events status = record { games = games; folder = folder; runs = subst (λ (x : CommonView). RunsGames o (folder_games_facts o) h x games at.port events status) is runs } in
-          record { noting = p.0; rest = events; notes = p.2; runs = subst (λ (s : Option (StoredGames S)). RunsKept o h at s events status) (sym none) its; all = refl }
+module _ {T P F K S L : Type 0} (o : Outside T P F K S L) (h : HostGames) (common : CommonView) where
+  -- the games run, with a file for each record
+  pub files_so : (port : P) (games : FolderGames) (a b : T) (r : Result ℕ WriteFault) → games.folder.now ≡ h.games.now → HostDoes o h (RunsGames o (folder_games_facts o) h common games port) a b r → HostDoes o h (RunsFiles o h common port) a b r
+  files_so port games a b r folder p =
+      outlives_so o h a b (RunsGames o (folder_games_facts o) h common games port) (RunsFiles o h common port) r (λ events status runs. record { games = games; folder = folder; runs = runs }) p
 
-  -- or with the store
-  pub stored_so : (games : StoredGames S) → at.store ≡ Some games → common ≡ at.common → AddsSome o a b (MayNote (tables_line at.read)) → HostDoes o h (RunsGames o (store_games_facts o) h common games at.port) b c r → HostDoes o h (NotesAndRuns o h at) a c r
-  stored_so games some is p q = then_outlives o h a b c p.0 (RunsGames o (store_games_facts o) h common games at.port) (NotesAndRuns o h at) r so (note_quiet (tables_line at.read) p.0 p.2) p.1 q
+  -- after the note on the tables
+  pub noted_so : (at : OpenedHost P S) (read files : ℕ) (a b c : T) (r : Result ℕ WriteFault) → common ≡ at.common → read ≡ files → AddsSome o a b (MayNote (tables_line read)) → HostDoes o h (RunsKept o h common at.port at.store) b c r → HostDoes o h (NotesAndRuns o h files at) a c r
+  noted_so at read files a b c r is count p q = then_outlives o h a b c p.0 (RunsKept o h common at.port at.store) (NotesAndRuns o h files at) r so (note_quiet (tables_line read) p.0 p.2) p.1 q
     where
-      so : (events : List Event) (status : Option ℕ) → RunsGames o (store_games_facts o) h common games at.port events status → NotesAndRuns o h at (p.0 ++ events) status
-      so events status runs =
-          let its : RunsGames o (store_games_facts o) h at.common games at.port events status = subst (λ (x : CommonView). RunsGames o (store_games_facts o) h x games at.port events status) is runs in
-          record { noting = p.0; rest = events; notes = p.2; runs = subst (λ (s : Option (StoredGames S)). RunsKept o h at s events status) (sym some) its; all = refl }
+      so : (events : List Event) (status : Option ℕ) → RunsKept o h common at.port at.store events status → NotesAndRuns o h files at (p.0 ++ events) status
+      so events status runs = record {
+        noting = p.0;
+        rest = events;
+        notes = subst (λ (n : ℕ). MayNote (tables_line n) p.0) count p.2;
+        runs = subst (λ (x : CommonView). RunsKept o h x at.port at.store events status) is runs;
+        all = refl;
+      }

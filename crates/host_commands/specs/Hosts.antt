@@ -105,17 +105,16 @@ module _ {T P F K S L : Type 0} (o : Outside T P F K S L) (folder : List ℕ) wh
 
 -- ---- all of it
 
--- what a start opens: what the games have in common, by tables of so many files, at this port; the line that tells its address; and the
--- games that keep their records in a store, if they do
+-- what a start opens: what the games have in common, at this port; the line that tells its address; and the games that keep their records in
+-- a store, if they do
 pub record OpenedHost (P S : Type 0) : Type 0 where
-  pub read : ℕ
   pub common : CommonView
   pub port : P
   pub line : List ℕ
   pub store : Option (StoredGames S)
 
-abbrev pub opened_host : {P S : Type 0} → ℕ → CommonView → P → List ℕ → Option (StoredGames S) → OpenedHost P S
-opened_host read common port line store = record { read = read; common = common; port = port; line = line; store = store }
+abbrev pub opened_host : {P S : Type 0} → CommonView → P → List ℕ → Option (StoredGames S) → OpenedHost P S
+opened_host common port line store = record { common = common; port = port; line = line; store = store }
 
 module _ {T P F K S L : Type 0} (o : Outside T P F K S L) (h : HostGames) where
   -- what is opened by what was read, one after the other
@@ -132,30 +131,30 @@ module _ {T P F K S L : Type 0} (o : Outside T P F K S L) (h : HostGames) where
       AndThen (IsReadyLine (o.port port).own)
       (λ line.
       AndThen (LocksFile o (games_lock h.games.now))
-      (λ held. AndThen (OpensStoreIf o h.games.now h.store) (λ store. AllOpen (opened_host (length given.files) (common_for h set manifest) port line store))))))))
+      (λ held. AndThen (OpensStoreIf o h.games.now h.store) (λ store. AllOpen (opened_host (common_for h set manifest) port line store))))))))
 
   -- the games of the folder run, with a file for each record
-  pub record RunsFiles (at : OpenedHost P S) (events : List Event) (status : Option ℕ) : Type 0 where
+  pub record RunsFiles (common : CommonView) (port : P) (events : List Event) (status : Option ℕ) : Type 0 where
     pub games : FolderGames
     pub folder : games.folder.now ≡ h.games.now
-    pub runs : RunsGames o (folder_games_facts o) h at.common games at.port events status
+    pub runs : RunsGames o (folder_games_facts o) h common games port events status
 
   -- or with a store
-  abbrev pub RunsKept : OpenedHost P S → Option (StoredGames S) → Doing
-  RunsKept at None = RunsFiles at
-  RunsKept at (Some games) = RunsGames o (store_games_facts o) h at.common games at.port
+  abbrev pub RunsKept : CommonView → P → Option (StoredGames S) → Doing
+  RunsKept common port None = RunsFiles common port
+  RunsKept common port (Some games) = RunsGames o (store_games_facts o) h common games port
 
   -- of how many files the tables were read is noted first
-  pub record NotesAndRuns (at : OpenedHost P S) (events : List Event) (status : Option ℕ) : Type 0 where
+  pub record NotesAndRuns (read : ℕ) (at : OpenedHost P S) (events : List Event) (status : Option ℕ) : Type 0 where
     pub noting : List Event
     pub rest : List Event
-    pub notes : MayNote (tables_line at.read) noting
-    pub runs : RunsKept at at.store rest status
+    pub notes : MayNote (tables_line read) noting
+    pub runs : RunsKept at.common at.port at.store rest status
     pub all : events ≡ noting ++ rest
 
   -- the line goes out before that
   abbrev pub HostsBy : Given → Doing
-  HostsBy given = ThenOrRefused (StartsHost given) (λ at. AfterText at.line (NotesAndRuns at))
+  HostsBy given = ThenOrRefused (StartsHost given) (λ at. AfterText at.line (NotesAndRuns (length given.files) at))
 
   -- what the words name is read before all else
   abbrev pub Hosts : Doing

@@ -137,12 +137,12 @@ module _ {T P F K S L : Type 0} (o : Outside T P F K S L) (l : Listen) where
       (λ port. AndThen (MakesLineIf l.ready (o.port port).own) (λ line. AllOpen (opened_one (served_of l start set manifest) port line))))))
 
   -- under the lock of its file the arbiter of the game runs
-  abbrev pub LocksAndRuns : OpenedOne P → Doing
-  LocksAndRuns at = ThenOrRefused (LocksFile o (kept_lock l.kept.now)) (λ held. RunsOne o (one_game_facts o) l at.served at.port)
+  abbrev pub LocksAndRuns : OneServed OneGameView → P → Doing
+  LocksAndRuns s port = ThenOrRefused (LocksFile o (kept_lock l.kept.now)) (λ held. RunsOne o (one_game_facts o) l s port)
 
   -- the line goes out before that
   abbrev pub ListensBy : Given → Doing
-  ListensBy given = ThenOrRefused (StartsOne given) (λ at. AfterLine at.line (LocksAndRuns at))
+  ListensBy given = ThenOrRefused (StartsOne given) (λ at. AfterLine at.line (LocksAndRuns at.served at.port))
 
   -- what the words name is read before all else
   abbrev pub Listens : Doing

@@ -32,11 +32,10 @@ use system_io::WriteFault;
 use task_files::{Inputs, read_inputs};
 use timeline::System;
 
-/// What a start opens: the tables, of so many files, and their manifest; a port, and the line that tells its address; the lock of the
-/// folder, and its store, where records are kept in one.
+/// What a start opens: the tables and their manifest; a port, and the line that tells its address; the lock of the folder, and its store,
+/// where records are kept in one.
 #[derive(Drop)]
 struct Opened<'a, P: Drop, K: Drop, G: Drop> {
-    read: usize,
     tables: Set<'a>,
     manifest: Vec<u8>,
     port: P,
@@ -179,7 +178,6 @@ fn open_all<'a, 'f, S: System>(
     let held = lock(alloc, system, timeline, task.games, IN_GAMES)?;
     let store = open_kept(alloc, system, timeline, task.games, task.store)?;
     Ok(Opened {
-        read: sources.files().len(),
         tables,
         manifest,
         port,
@@ -189,36 +187,31 @@ fn open_all<'a, 'f, S: System>(
     })
 }
 
-/// Notes of how many files tables were read, and serves the games of the folder, each with a file for its record or all with the store.
-fn serve_kept<S: System>(
+/// Serves the games of the folder at a port, each with a file for its record, or all with the store, where there is one.
+fn serve_kept<'a, 'f, S: System>(
     alloc: Global,
     task: &HostGames<'_>,
-    opened: Opened<'_, S::Port, S::Lock, StoreGames<'_, S>>,
+    served: GamesServed<'a, Option<StoreGames<'f, S>>>,
+    port: &mut S::Port,
     system: &S,
     timeline: &mut S::Timeline,
 ) -> Result<u8, WriteFault>
-    ensures made { KeptIn (S.outside system.now) task.now opened.entry timeline.old timeline.new result }
+    ensures made { KeptIn (S.outside system.now) task.now served.entry port.old timeline.old timeline.new result }
     ensures cause { OnErr result (OutputFails (S.outside system.now)) }
 {
-    let Opened {
-        read,
+    let GamesServed {
+        config,
         tables,
-        manifest,
-        mut port,
-        line: _line,
-        held: _held,
-        store,
-    } = opened;
-    note_tables(alloc, system, timeline, read);
-    let config = config_for(task, &manifest);
-    match store {
+        games,
+    } = served;
+    match games {
         None => {
             let served = GamesServed {
                 config,
                 tables,
                 games: FolderGames { folder: task.games },
             };
-            serve_games(alloc, task, served, &mut port, system, timeline)
+            serve_games(alloc, task, served, port, system, timeline)
         }
         Some(games) => {
             let served = GamesServed {
@@ -226,7 +219,7 @@ fn serve_kept<S: System>(
                 tables,
                 games,
             };
-            serve_games(alloc, task, served, &mut port, system, timeline)
+            serve_games(alloc, task, served, port, system, timeline)
         }
     }
 }
@@ -246,10 +239,25 @@ fn host_by<S: System>(
         Ok(opened) => opened,
         Err(refusal) => return print_refusal(system, timeline, refusal),
     };
-    match print_out(system, timeline, opened.line.as_str()) {
-        Ok(()) => serve_kept(alloc, task, opened, system, timeline),
-        Err(fault) => Err(fault),
+    let Opened {
+        tables,
+        manifest,
+        mut port,
+        line,
+        held: _held,
+        store,
+    } = opened;
+    match print_out(system, timeline, line.as_str()) {
+        Ok(()) => {}
+        Err(fault) => return Err(fault),
     }
+    note_tables(alloc, system, timeline, sources.files().len());
+    let served = GamesServed {
+        config: config_for(task, &manifest),
+        tables,
+        games: store,
+    };
+    serve_kept(alloc, task, served, &mut port, system, timeline)
 }
 
 /// Answers the datagrams of any number of games as the words say, each by the arbiter of its game, and returns the status.

@@ -198,30 +198,22 @@ fn open_one<'a, S: System>(
     })
 }
 
-/// Locks the file in which the record is kept, and serves the game as long as it is locked.
+/// Locks the file in which the record is kept, and serves the game at a port as long as it is locked.
 fn lock_and_serve<S: System>(
     alloc: Global,
     task: &Listen<'_>,
-    opened: Opened<'_, S::Port>,
+    served: OneServed<'_, OneGame<'_>>,
+    port: &mut S::Port,
     system: &S,
     timeline: &mut S::Timeline,
 ) -> Result<u8, WriteFault>
-    ensures made { LocksIn (S.outside system.now) task.now opened.entry timeline.old timeline.new result }
+    ensures made { LocksIn (S.outside system.now) task.now served.entry port.old timeline.old timeline.new result }
     ensures cause { OnErr result (OutputFails (S.outside system.now)) }
 {
-    let Opened {
-        start,
-        tables,
-        manifest,
-        mut port,
-        line: _line,
-    } = opened;
-    let _held = match lock(alloc, system, timeline, task.kept, BESIDE_KEPT) {
-        Ok(held) => held,
-        Err(refusal) => return print_refusal(system, timeline, refusal),
-    };
-    let served = served_from(task, start, tables, &manifest);
-    serve_one(alloc, task, served, &mut port, system, timeline)
+    match lock(alloc, system, timeline, task.kept, BESIDE_KEPT) {
+        Ok(_held) => serve_one(alloc, task, served, port, system, timeline),
+        Err(refusal) => print_refusal(system, timeline, refusal),
+    }
 }
 
 /// Serves the game that the words tell by what was read, when its port is open and the line that tells its address, where that is wanted,
@@ -240,10 +232,19 @@ fn listen_by<S: System>(
         Ok(opened) => opened,
         Err(refusal) => return print_refusal(system, timeline, refusal),
     };
-    match print_line(system, timeline, &opened.line) {
-        Ok(()) => lock_and_serve(alloc, task, opened, system, timeline),
-        Err(fault) => Err(fault),
+    let Opened {
+        start,
+        tables,
+        manifest,
+        mut port,
+        line,
+    } = opened;
+    match print_line(system, timeline, &line) {
+        Ok(()) => {}
+        Err(fault) => return Err(fault),
     }
+    let served = served_from(task, start, tables, &manifest);
+    lock_and_serve(alloc, task, served, &mut port, system, timeline)
 }
 
 /// Opens an arbiter as its words say, answers datagrams, and returns the status.

@@ -15,7 +15,7 @@ use Rattle.system_io.specs.declared.output.WriteFault.{WriteFault}
 use Rattle.system_io.specs.declared.recipient.Recipient.{Recipient}
 use Rattle.timeline.specs.Events.{Event, Noted}
 use Rattle.timeline.specs.Outsides.{AddsSome, Outside}
-use Rattle.host_commands.specs.Hosts.{AnswersLogged, NotesAndRuns, OpenedHost, RunsGames, common_for, log_lost, opened_host}
+use Rattle.host_commands.specs.Hosts.{AnswersLogged, OpenedHost, RunsGames, RunsKept, common_for, log_lost, opened_host}
 use Rattle.host_commands.specs.Outliving.{PerformsOutliving}
 use Rattle.host_commands.specs.ServerRuns.{AnswersAll}
 use Rattle.host_commands.specs.Steps.{Doing}
@@ -24,7 +24,7 @@ use Rattle.host_commands.specs.declared.hosting.Opened.{Opened}
 
 -- what was opened for the games that these words tell, or the words of the refusal
 abbrev pub host_view : {P K S : Type 0} → HostGames → Opened P K (StoredGames S) → OpenedHost P S
-host_view h at = opened_host at.read (common_for h at.tables at.manifest.items) at.port (string_bytes at.line) at.store
+host_view h at = opened_host (common_for h at.tables at.manifest.items) at.port (string_bytes at.line) at.store
 
 abbrev pub all_opened : {P K S : Type 0} → HostGames → Result (Opened P K (StoredGames S)) Refusal → Result (OpenedHost P S) (List ℕ)
 all_opened h (Ok at) = Ok (host_view h at)
@@ -54,6 +54,6 @@ module _ {T P F K S L G : Type 0} (o : Outside T P F K S L) (facts : GamesFacts 
   abbrev pub RunsIn : HostGames → GamesServed G → P → T → T → Result ℕ WriteFault → Type 0
   RunsIn h s port = HostDoes o h (RunsGames o facts h (common_with s.config s.tables) s.games port)
 
--- what follows the line that tells the address
-abbrev pub KeptIn : {T P F K S L : Type 0} → Outside T P F K S L → HostGames → Opened P K (StoredGames S) → T → T → Result ℕ WriteFault → Type 0
-KeptIn o h at = HostDoes o h (NotesAndRuns o h (host_view h at))
+-- with a file for each record, or with a store
+abbrev pub KeptIn : {T P F K S L : Type 0} → Outside T P F K S L → HostGames → GamesServed (Option (StoredGames S)) → P → T → T → Result ℕ WriteFault → Type 0
+KeptIn o h s port = HostDoes o h (RunsKept o h (common_with s.config s.tables) port s.games)

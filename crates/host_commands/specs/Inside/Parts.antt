@@ -9,6 +9,7 @@ use Rattle.arbiter_server.specs.Games.{common_with}
 use Rattle.command_line.specs.Addresses.{addresses_of}
 use Rattle.command_line.specs.declared.commands.listen.Listen.{Listen}
 use Rattle.game_folder.specs.Holdings.{GamesFacts}
+use Rattle.game_folder.specs.OneGame.{OneGameView}
 use Rattle.game_server.specs.Printing.{form_in}
 use Rattle.game_server.specs.Sending.{address_of}
 use Rattle.game_server.specs.declared.running.PortServer.{PortServer}
@@ -104,6 +105,6 @@ module _ {T P F K S L G : Type 0} (o : Outside T P F K S L) (facts : GamesFacts 
   abbrev pub RunsIn : Listen → OneToServe G → P → T → T → Result ℕ WriteFault → Type 0
   RunsIn l served port = DoesIn o (RunsOne o facts l (served_one served) port)
 
--- what follows the line that tells the address
-abbrev pub LocksIn : {T P F K S L : Type 0} → Outside T P F K S L → Listen → Opened P → T → T → Result ℕ WriteFault → Type 0
-LocksIn o l at = DoesIn o (LocksAndRuns o l (one_view l at))
+-- under the lock
+abbrev pub LocksIn : {T P F K S L : Type 0} → Outside T P F K S L → Listen → OneToServe OneGameView → P → T → T → Result ℕ WriteFault → Type 0
+LocksIn o l served port = DoesIn o (LocksAndRuns o l (served_one served) port)

@@ -1,10 +1,6 @@
-use Rattle.std.proofs.Common.{◌∙◌, ℕ, List, ap, length, sym}
-use Rattle.std.proofs.lemmas.List.{length-map}
+use Rattle.std.proofs.Common.{refl}
 use Rattle.std.proofs.lemmas.Result.{err_from_is_err_and}
-use Rattle.std.specs.Prelude.{string_bytes}
 use Rattle.host_commands.proofs.StepLaws.{alone, alone_so, both, both_so, given}
-use Rattle.host_commands.specs.Hosts.{common_for, opened_host}
-use Rattle.move_msg.specs.Files.{File, table_file_of}
 use Rattle.host_commands.proofs.hosting.open_all.Goals as goal
 
 pub returns-in_err-tables : goal.returns-in_err-tables
@@ -52,4 +48,4 @@ returns-in_err-store g c =
 pub returns : goal.returns
 returns g c =
     let o = g.S.System.outside c.args.system.now in
-    both_so o _ _ _ _ _ _ c.in_ok-tables.ensures (both o _ _ _ _ _ _ _ c.in_ok-list_games.ensures (both_so o _ _ _ _ _ _ c.in_ok-manifest.ensures (both o _ _ _ _ _ _ _ c.in_ok-port.ensures (both_so o _ _ _ _ _ _ c.in_ok-line.ensures (both o _ _ _ _ _ _ _ c.in_ok-held.ensures (both o _ _ _ _ _ _ _ c.in_ok-store.ensures (given o _ _ _ (ap (λ (n : ℕ). opened_host n (common_for c.args.task.now c.in_ok-tables.tables c.in_ok-manifest.manifest.items) c.in_ok-port.port (string_bytes c.in_ok-line.line) c.in_ok-store.store) (sym (length-map c.files.result.now table_file_of) ∙ ap (λ (fs : List File). length fs) c.files.ensures.files)))))))))
+    both_so o _ _ _ _ _ _ c.in_ok-tables.ensures (both o _ _ _ _ _ _ _ c.in_ok-list_games.ensures (both_so o _ _ _ _ _ _ c.in_ok-manifest.ensures (both o _ _ _ _ _ _ _ c.in_ok-port.ensures (both_so o _ _ _ _ _ _ c.in_ok-line.ensures (both o _ _ _ _ _ _ _ c.in_ok-held.ensures (both o _ _ _ _ _ _ _ c.in_ok-store.ensures (given o _ _ _ refl)))))))
