@@ -4,24 +4,18 @@ use Rattle.std.specs.Prelude.{Result, Ok, Err}
 use Rattle.answer_parts.proofs.PrintLaws.{then_does}
 use Rattle.answer_parts.specs.Printing.{Performs, Prints}
 use Rattle.arbiter_server.specs.declared.fault.OpenGameError.{OpenGameError}
-use Rattle.board_core.specs.declared.parts.Parts.{Parts}
 use Rattle.command_line.specs.declared.commands.listen.Listen.{Listen}
 use Rattle.game_folder.specs.Holdings.{GamesFacts}
-use Rattle.game_folder.specs.OneGame.{OneGameView, one_game_facts}
 use Rattle.game_server.specs.Printing.{LineForm, OfOne}
 use Rattle.game_server.specs.Sending.{address_of}
 use Rattle.game_server.specs.Starting.{OpensUnasked}
 use Rattle.game_server.specs.declared.server.Server.{Server}
-use Rattle.judge_core.specs.Tables.{Holding}
 use Rattle.system_io.specs.declared.output.WriteFault.{WriteFault}
 use Rattle.system_io.specs.declared.recipient.Recipient.{Recipient}
-use Rattle.task_files.specs.Given.{Given}
 use Rattle.timeline.specs.Outsides.{AddsSome, Outside}
-use Rattle.host_commands.proofs.StepLaws.{goes_on, goes_on_so, is_refused, is_refused_so}
-use Rattle.host_commands.specs.Listens.{AsksAndAnswers, AsksIf, BindsAndRuns, GameIsNotOpen, GameIsOpen, ListensFrom, OneServed, OpensAndAnswers, OpensGame, RunsGame, served_of, unopened_refusal, usual_cache}
+use Rattle.host_commands.proofs.StepLaws.{goes_on, is_refused}
+use Rattle.host_commands.specs.Listens.{AsksAndAnswers, AsksIf, GameIsNotOpen, GameIsOpen, OpensAndAnswers, OpensGame, unopened_refusal}
 use Rattle.host_commands.specs.ServerRuns.{AnswersAll}
-use Rattle.host_commands.specs.Steps.{ThenOrRefused}
-use Rattle.host_commands.specs.Tables.{GathersTables, MakesManifest}
 
 module _ {T P F K S L G : Type 0} (o : Outside T P F K S L) (facts : GamesFacts G) where
   -- so many are answered together, to these, in lines of this form
@@ -44,17 +38,3 @@ module _ {T P F K S L G : Type 0} (o : Outside T P F K S L) (facts : GamesFacts 
     pub unopened_so : (a b c : T) (left : Server G F) (why : OpenGameError) (r : Result ℕ WriteFault) → AddsSome o a b (OpensUnasked o facts server left stamp (Err why)) → AddsSome o b c (Performs (Prints (unopened_refusal why ∷ []) 1) r)
         → AddsSome o a c (Performs (OpensAndAnswers o facts l most stamp port server) r)
     unopened_so a b c left why r p q = is_refused o a b c (OpensGame o facts l most stamp server) (AsksAndAnswers o facts l most stamp port) (unopened_refusal why) r (p.0, p.1, GameIsNotOpen why left p.2 refl) q
-
-module _ {T P F K S L : Type 0} (o : Outside T P F K S L) (l : Listen) (given : Given) (start : Parts) (a b : T) (r : Result ℕ WriteFault) where
-  -- by these tables and their manifest
-  pub runs_by : (set : Holding) (manifest : List ℕ) (served : OneServed OneGameView) → GathersTables given usual_cache (Ok set) [] → MakesManifest given (Ok manifest) [] → served ≡ served_of l start set manifest
-      → AddsSome o a b (Performs (BindsAndRuns o (one_game_facts o) l served) r) → AddsSome o a b (Performs (ListensFrom o l given start) r)
-  runs_by set manifest served tables made is p =
-      let one : AddsSome o a b (Performs (RunsGame o l start set manifest) r) = subst (λ (s : OneServed OneGameView). AddsSome o a b (Performs (BindsAndRuns o (one_game_facts o) l s) r)) is p in
-      goes_on_so o a b (GathersTables given usual_cache) (λ set. ThenOrRefused (MakesManifest given) (RunsGame o l start set)) set r tables (goes_on_so o a b (MakesManifest given) (RunsGame o l start set) manifest r made one)
-
-  pub no_manifest : (set : Holding) (words : List ℕ) → GathersTables given usual_cache (Ok set) [] → MakesManifest given (Err words) [] → AddsSome o a b (Performs (Prints (words ∷ []) 1) r) → AddsSome o a b (Performs (ListensFrom o l given start) r)
-  no_manifest set words tables made p = goes_on_so o a b (GathersTables given usual_cache) (λ set. ThenOrRefused (MakesManifest given) (RunsGame o l start set)) set r tables (is_refused_so o a b (MakesManifest given) (RunsGame o l start set) words r made p)
-
-  pub no_tables : (words : List ℕ) → GathersTables given usual_cache (Err words) [] → AddsSome o a b (Performs (Prints (words ∷ []) 1) r) → AddsSome o a b (Performs (ListensFrom o l given start) r)
-  no_tables words tables p = is_refused_so o a b (GathersTables given usual_cache) (λ set. ThenOrRefused (MakesManifest given) (RunsGame o l start set)) words r tables p

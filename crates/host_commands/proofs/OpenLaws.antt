@@ -3,10 +3,7 @@ use Rattle.std.proofs.Common.{◌≡◌, ◌++◌, ◌∷◌, ◌∙◌, [], ℕ
 use Rattle.std.specs.Global.{Global}
 use Rattle.std.specs.Prelude.{Result, Ok, Err, IfOk, String, string_bytes}
 use Rattle.arbiter_server.specs.GameFolders.{kept_path}
-use Rattle.game_folder.specs.StoreGames.{StoredGames}
-use Rattle.game_status.specs.StoreReadings.{store_path}
-use Rattle.host_commands.specs.Hosts.{IsKept, KeepsInStore, NoImport, NoStore, OpensGames, OverStore, stored_games}
-use Rattle.host_commands.specs.Imports.{Imported, ImportsRecords, IsLeftLine, LeftNotNoted, LeftNoted, NotesAllLeft, NotesLeft, OpensStore}
+use Rattle.host_commands.specs.Imports.{IsLeftLine, LeftNotNoted, LeftNoted, NotesAllLeft, NotesLeft}
 use Rattle.host_commands.specs.Notes.{noted_if}
 use Rattle.timeline.proofs.EventLaws.{adds_more, adds_none}
 use Rattle.timeline.specs.Events.{Event, Noted}
@@ -33,16 +30,3 @@ module _ {T P F K S L : Type 0} (o : Outside T P F K S L) (folder : List ℕ) wh
 
   pub one_left : (stamps : List (List ℕ)) (stamp : List ℕ) (a b c : T) → AddsSome o a b (NotesAllLeft folder stamps) → AddsSome o b c (NotesLeft (kept_path folder stamp)) → AddsSome o a c (NotesAllLeft folder (stamps ++ stamp ∷ []))
   one_left stamps stamp a b c p q = (p.0 ++ q.0, adds_more o a b c p.0 q.0 p.1 q.1, left_more stamps stamp p.0 q.0 p.2 q.2)
-
-  module _ (store : S) where
-    pub kept_so : (a b c : T) (now : Imported S) (games : StoredGames S) → AddsSome o a b (ImportsRecords o folder store (Ok now)) → AddsSome o b c (NotesAllLeft folder now.left) → games ≡ stored_games folder now.store now.left → AddsSome o a c (KeepsInStore o folder store (Ok games))
-    kept_so a b c now games p q is = (p.0 ++ q.0, adds_more o a b c p.0 q.0 p.1 q.1, IsKept now (record { importing = p.0; noting = q.0; imports = p.2; notes = q.2; all = refl }) (ap Ok is))
-
-    pub not_kept : (a b : T) (words : List ℕ) → AddsSome o a b (ImportsRecords o folder store (Err words)) → AddsSome o a b (KeepsInStore o folder store (Err words))
-    not_kept a b words p = (p.0, p.1, NoImport words p.2 refl)
-
-    pub over_store : (a b c : T) (r : Result (StoredGames S) (List ℕ)) → AddsSome o a b (OpensStore o (store_path folder) (Ok store)) → AddsSome o b c (KeepsInStore o folder store r) → AddsSome o a c (OpensGames o folder r)
-    over_store a b c r p q = (p.0 ++ q.0, adds_more o a b c p.0 q.0 p.1 q.1, OverStore store p.0 q.0 p.2 q.2 refl)
-
-  pub no_store : (a b : T) (words : List ℕ) → AddsSome o a b (OpensStore o (store_path folder) (Err words)) → AddsSome o a b (OpensGames o folder (Err words))
-  no_store a b words p = (p.0, p.1, NoStore words p.2 refl)

@@ -5,21 +5,27 @@ use Rattle.answer_parts.specs.Printing.{AtFlush, AtWrite, IsCutIn, printed}
 use Rattle.move_msg.specs.Files.{File}
 use Rattle.move_msg.specs.declared.told.Manifest.{Manifest}
 use Rattle.move_msg.specs.declared.told.Manifest.TheVariants.{Unnamed}
+use Rattle.command_line.specs.declared.commands.host.HostGames.{HostGames}
 use Rattle.command_line.specs.declared.words.numbers.StoreForm.{StoreForm}
+use Rattle.command_line.specs.declared.words.numbers.StoreForm.TheVariants as form
 use Rattle.host_commands.specs.Binds.{BindsPort, IsBound, NoRoomForAddresses, NoRoomToBind, Unbound}
-use Rattle.host_commands.specs.Hosts.{IsKept, KeepsInStore, NoImport, NoStore, OpensGames, OverStore}
+use Rattle.game_status.specs.StoreReadings.{store_path}
+use Rattle.host_commands.specs.Hosts.{KeepsInStore, NotesAndKeeps, OpensGames, OpensStoreIf, StartsHost}
 use Rattle.host_commands.specs.Imports.{AllImported, AllPut, AllSeen, FailsToLook, FileUnread, FolderIsNot, ImportsRecords, InFile, InNeither, InStore, Kept, LeftNotNoted, LeftNoted, ListsAndLooks, Look, LooksAndPuts, LooksAtAll, NoRoomFor, NoRoomForFile, NoRoomForStamps, NoRoomForStore, NoRoomToRead, NoneComes, NonePut, NotPut, NotesAllLeft, NotesLeft, OneFails, OneUnseen, OpensStore, PutsComing, StoreIs, StoreIsNot, all_look_events, file_events, look_events}
 use Rattle.host_commands.specs.Listings.{IsBarred, IsListed, IsNotListed, ListsGames}
-use Rattle.host_commands.specs.Locks.{InUse, IsLocked, LocksFile, NoLock, NoRoomForPath, NoRoomToLock}
+use Rattle.host_commands.specs.Locks.{InUse, IsLocked, LocksFile, NoLock, NoRoomForPath, NoRoomToLock, games_lock}
 use Rattle.host_commands.specs.Notes.{IsNoted, MayNote, NotNoted, ThenMayNote}
 use Rattle.host_commands.specs.Outliving.{ReceivesNothing, is_receive}
-use Rattle.host_commands.specs.Steps.{Step}
-use Rattle.host_commands.specs.Tables.{ReadsNamed}
+use Rattle.host_commands.specs.Ready.{IsReadyLine, LineIs, NoAddress, NoRoomForLine}
+use Rattle.host_commands.specs.Steps.{AndThen, BothDone, FirstIsRefused, AllOpen, Step}
+use Rattle.host_commands.specs.Tables.{GathersTables, MakesManifest, ManifestIs, NoRoomForManifest, NoRoomForTables, ReadsNamed, TablesAre, TablesAreNot}
 use Rattle.arbiter_server.specs.GameFolders.{kept_path}
 use Rattle.system_io.specs.Disks.{DiskFacts}
 use Rattle.system_io.specs.Inputs.{InputFacts}
 use Rattle.system_io.specs.declared.reading.ReadFault.{ReadFault}
 use Rattle.system_io.specs.declared.record_store.Entry.{Entry}
+use Rattle.std.specs.declared.net.socket_addr.SocketAddr.{SocketAddr}
+use Rattle.task_files.specs.Given.{Given}
 use Rattle.task_files.specs.InputReads.{Both, FileIs, FileIsNot, FirstAlone, Gives, InputIs, InputIsNot, LinesAre, NoRoomForLines, Reading, ReadsAllInput, ReadsFile, ReadsHeld, ReadsInput, ReadsKept, ReadsLines, ReadsManifest, ReadsText, ReadsTexts, ReadsWanted, Then, given_by}
 use Rattle.task_files.specs.Sources.{Named}
 use Rattle.task_files.specs.TableReads as tables
@@ -71,21 +77,42 @@ noting_quiet first line events n quiet = subst ReceivesNothing (sym n.all) (quie
 abbrev pub IsQuietStep : {A : Type 0} → Step A → Type 0
 IsQuietStep {A} First = (r : Result A (List ℕ)) (events : List Event) → First r events → ReceivesNothing events
 
+given_quiet : {A : Type 0} (x : A) → IsQuietStep (AllOpen x)
+given_quiet x r events p = none_quiet events p.1
+
+steps_quiet : {A B : Type 0} (First : Step A) (Next : A → Step B) → IsQuietStep First → ((a : A) → IsQuietStep (Next a)) → IsQuietStep (AndThen First Next)
+steps_quiet First Next p q r events (BothDone a first rest does next is) = then_quiet first rest events (p (Ok a) first does) (q a r rest next) is
+steps_quiet First Next p q r events (FirstIsRefused words does told) = p (Err words) events does
+
+gathering_quiet : (given : Given) (cache : ℕ) → IsQuietStep (GathersTables given cache)
+gathering_quiet given cache r events (TablesAre set are kept told none) = none_quiet events none
+gathering_quiet given cache r events (TablesAreNot words are told none) = none_quiet events none
+gathering_quiet given cache r events (NoRoomForTables told none) = none_quiet events none
+
+making_quiet : (given : Given) → IsQuietStep (MakesManifest given)
+making_quiet given r events (ManifestIs manifest spells told none) = none_quiet events none
+making_quiet given r events (NoRoomForManifest told none) = none_quiet events none
+
+line_quiet : (own : Option SocketAddr) → IsQuietStep (IsReadyLine own)
+line_quiet own r events (LineIs at is told none) = none_quiet events none
+line_quiet own r events (NoAddress is told none) = none_quiet events none
+line_quiet own r events (NoRoomForLine told none) = none_quiet events none
+
 module _ {T P F K S L : Type 0} (o : Outside T P F K S L) where
-  pub bind_quiet : (address to : List ℕ) → IsQuietStep (BindsPort o address to)
+  bind_quiet : (address to : List ℕ) → IsQuietStep (BindsPort o address to)
   bind_quiet address to r events (IsBound port at told is) = one_quiet _ events is refl
   bind_quiet address to r events (Unbound why told notes) = noting_quiet _ _ events notes refl
   bind_quiet address to r events (NoRoomToBind why told is) = one_quiet _ events is refl
   bind_quiet address to r events (NoRoomForAddresses many told none) = none_quiet events none
 
-  pub lock_quiet : (path : List ℕ) → IsQuietStep (LocksFile o path)
+  lock_quiet : (path : List ℕ) → IsQuietStep (LocksFile o path)
   lock_quiet path r events (IsLocked held gives at told is) = one_quiet _ events is refl
   lock_quiet path r events (InUse bars told notes) = noting_quiet _ _ events notes refl
   lock_quiet path r events (NoLock bars told is) = one_quiet _ events is refl
   lock_quiet path r events (NoRoomToLock bars told is) = one_quiet _ events is refl
   lock_quiet path r events (NoRoomForPath told none) = none_quiet events none
 
-  pub listing_quiet : (folder : List ℕ) (form : StoreForm) → IsQuietStep (ListsGames o.disk folder form)
+  listing_quiet : (folder : List ℕ) (form : StoreForm) → IsQuietStep (ListsGames o.disk folder form)
   listing_quiet folder form r events (IsListed names has clear told) = one_quiet _ events has.is refl
   listing_quiet folder form r events (IsBarred what bars told) = noting_quiet _ _ events bars.notes refl
   listing_quiet folder form r events (IsNotListed fault lacks told) = one_quiet _ events lacks.is refl
@@ -144,12 +171,24 @@ module _ {T P F K S L : Type 0} (o : Outside T P F K S L) where
   all_left_quiet folder (stamp ∷ stamps) events p = then_quiet p.0 p.1 events (left_quiet (kept_path folder stamp) p.0 p.2) (all_left_quiet folder stamps p.1 p.3) p.4
 
   keeping_quiet : (folder : List ℕ) (store : S) → IsQuietStep (KeepsInStore o folder store)
-  keeping_quiet folder store r events (NoImport words imports told) = importing_quiet folder store _ events imports
-  keeping_quiet folder store r events (IsKept now its told) = then_quiet its.importing its.noting events (importing_quiet folder store _ its.importing its.imports) (all_left_quiet folder now.left its.noting its.notes) its.all
+  keeping_quiet folder store = steps_quiet (ImportsRecords o folder store) (NotesAndKeeps o folder) (importing_quiet folder store) (λ now r events p. all_left_quiet folder now.left events p.1)
 
-  pub opening_quiet : (folder : List ℕ) → IsQuietStep (OpensGames o folder)
-  opening_quiet folder r events (NoStore words opens told) = store_quiet _ _ events opens
-  opening_quiet folder r events (OverStore store opening rest opens keeps is) = then_quiet opening rest events (store_quiet _ _ opening opens) (keeping_quiet folder store r rest keeps) is
+  opening_quiet : (folder : List ℕ) → IsQuietStep (OpensGames o folder)
+  opening_quiet folder = steps_quiet (OpensStore o (store_path folder)) (KeepsInStore o folder) (store_quiet (store_path folder)) (keeping_quiet folder)
+
+  kept_open_quiet : (folder : List ℕ) (where_kept : StoreForm) → IsQuietStep (OpensStoreIf o folder where_kept)
+  kept_open_quiet folder form.Files = given_quiet None
+  kept_open_quiet folder form.Sqlite = steps_quiet (OpensGames o folder) (λ games. AllOpen (Some games)) (opening_quiet folder) (λ games. given_quiet (Some games))
+
+  pub start_quiet : (h : HostGames) (given : Given) → IsQuietStep (StartsHost o h given)
+  start_quiet h given =
+      steps_quiet (GathersTables given h.cache) _ (gathering_quiet given h.cache)
+      (λ set. steps_quiet (ListsGames o.disk h.games.now h.store) _ (listing_quiet h.games.now h.store)
+      (λ listed. steps_quiet (MakesManifest given) _ (making_quiet given)
+      (λ manifest. steps_quiet (BindsPort o h.bind.now h.to.now) _ (bind_quiet h.bind.now h.to.now)
+      (λ port. steps_quiet (IsReadyLine (o.port port).own) _ (line_quiet (o.port port).own)
+      (λ line. steps_quiet (LocksFile o (games_lock h.games.now)) _ (lock_quiet (games_lock h.games.now))
+      (λ held. steps_quiet (OpensStoreIf o h.games.now h.store) _ (kept_open_quiet h.games.now h.store) (λ store. given_quiet _)))))))
 
 -- ---- what the words name
 

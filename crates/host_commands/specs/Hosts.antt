@@ -1,5 +1,5 @@
 -- `host`: arbiters of the games of a folder, at one port (this project's own).
-use Rattle.std.specs.Prelude.{◌≡◌, ◌++◌, ℕ, true, List, [], ◌∷◌, Option, None, Result, Ok, Err, codes, length}
+use Rattle.std.specs.Prelude.{◌≡◌, ◌++◌, ℕ, true, List, [], ◌∷◌, Option, Some, None, Result, Ok, Err, codes, length}
 use Rattle.std.specs.Fmt.{decimal}
 use Rattle.std.specs.NonZero.{non_zero_usize_get}
 use Rattle.arbiter_server.specs.Games.{CommonView}
@@ -27,9 +27,9 @@ use Rattle.host_commands.specs.Imports.{ImportsRecords, Imported, NotesAllLeft, 
 use Rattle.host_commands.specs.Listings.{ListsGames}
 use Rattle.host_commands.specs.Locks.{LocksFile, games_lock}
 use Rattle.host_commands.specs.Notes.{MayNote}
-use Rattle.host_commands.specs.Ready.{TellsReady}
+use Rattle.host_commands.specs.Ready.{IsReadyLine}
 use Rattle.host_commands.specs.ServerRuns.{AnswersAll, IsServer, LosesLine}
-use Rattle.host_commands.specs.Steps.{Doing, Step, ThenOrRefused}
+use Rattle.host_commands.specs.Steps.{AfterText, AndThen, Doing, AllOpen, Step, ThenOrRefused}
 use Rattle.host_commands.specs.Tables.{GathersTables, MakesManifest, ReadsNamed}
 
 -- how many datagrams are answered together: with a store those that have come, since what their games keep is committed at once
@@ -55,14 +55,6 @@ tables_line read = codes "tables " ++ decimal read
 
 -- ---- a run
 
--- what is served: what the games have in common, and where they are
-pub record GamesServed (G : Type 0) : Type 0 where
-  pub common : CommonView
-  pub games : G
-
-abbrev pub served_with : {G : Type 0} → CommonView → G → GamesServed G
-served_with common games = record { common = common; games = games }
-
 module _ {T P F K S L G : Type 0} (o : Outside T P F K S L) (facts : GamesFacts G) (h : HostGames) where
   module _ (most : ℕ) (to : List Recipient) where
     -- datagrams are answered, with the lines of a log of this form
@@ -83,20 +75,9 @@ module _ {T P F K S L G : Type 0} (o : Outside T P F K S L) (facts : GamesFacts 
       Logged : AnswersWith h.log server events status → AnswersLogged server events status
       Unlogged : h.outlives_log ≡ true → OutlivesLog server events status → AnswersLogged server events status
 
-  abbrev pub RunsGames : GamesServed G → P → Doing
-  RunsGames s port = ThenOrRefused (IsServer s.common s.games) (AnswersLogged s.common.together (o.port port).to)
-
-  -- of how many files the tables were read is noted first
-  pub record NotesAndRuns (read : ℕ) (s : GamesServed G) (port : P) (events : List Event) (status : Option ℕ) : Type 0 where
-    pub noting : List Event
-    pub rest : List Event
-    pub notes : MayNote (tables_line read) noting
-    pub runs : RunsGames s port rest status
-    pub all : events ≡ noting ++ rest
-
-  -- the port is bound, and the address at which datagrams come is told before all else
-  abbrev pub BindsAndRuns : ℕ → GamesServed G → Doing
-  BindsAndRuns read s = ThenOrRefused (BindsPort o h.bind.now h.to.now) (λ port. TellsReady (o.port port).own (NotesAndRuns read s port))
+  -- there is a server of these games, and it answers the datagrams of this port
+  abbrev pub RunsGames : CommonView → G → P → Doing
+  RunsGames common games port = ThenOrRefused (IsServer common games) (AnswersLogged common.together (o.port port).to)
 
 -- ---- how records are kept
 
@@ -105,61 +86,75 @@ abbrev pub stored_games : {S : Type 0} → List ℕ → S → List (List ℕ) �
 stored_games folder store left = record { folder = folder; store = store; noted = []; left = left; loss = None }
 
 module _ {T P F K S L : Type 0} (o : Outside T P F K S L) (folder : List ℕ) where
-  module _ (store : S) where
-    -- the records of files go over into a store that hasn't them, and it is noted which files hold none
-    pub record ImportsAndNotes (now : Imported S) (events : List Event) : Type 0 where
-      pub importing : List Event
-      pub noting : List Event
-      pub imports : ImportsRecords o folder store (Ok now) importing
-      pub notes : NotesAllLeft folder now.left noting
-      pub all : events ≡ importing ++ noting
+  -- it is noted which files hold none of their games' records, and what games keep is put into the store from then on
+  abbrev pub NotesAndKeeps : Imported S → Step (StoredGames S)
+  NotesAndKeeps now result events = (result ≡ Ok (stored_games folder now.store now.left)) × NotesAllLeft folder now.left events
 
-    -- what games keep is put there from then on; or why records don't go over
-    pub data KeepsInStore (result : Result (StoredGames S) (List ℕ)) (events : List Event) : Type 0 where
-      NoImport : (words : List ℕ) → ImportsRecords o folder store (Err words) events → result ≡ Err words → KeepsInStore result events
-      IsKept : (now : Imported S) → ImportsAndNotes now events → result ≡ Ok (stored_games folder now.store now.left) → KeepsInStore result events
+  -- before that the records of files go over into a store that hasn't them
+  abbrev pub KeepsInStore : S → Step (StoredGames S)
+  KeepsInStore store = AndThen (ImportsRecords o folder store) NotesAndKeeps
 
   -- the store of the folder is opened before
-  abbrev pub OpensIt : Step S
-  OpensIt = OpensStore o (store_path folder)
+  abbrev pub OpensGames : Step (StoredGames S)
+  OpensGames = AndThen (OpensStore o (store_path folder)) KeepsInStore
 
-  pub data OpensGames (result : Result (StoredGames S) (List ℕ)) (events : List Event) : Type 0 where
-    NoStore : (words : List ℕ) → OpensIt (Err words) events → result ≡ Err words → OpensGames result events
-    OverStore : (its : S) (first rest : List Event) → OpensIt (Ok its) first → KeepsInStore its result rest → events ≡ first ++ rest → OpensGames result events
+  -- so it is where records are kept in a store, and not each in its file
+  abbrev pub OpensStoreIf : StoreForm → Step (Option (StoredGames S))
+  OpensStoreIf form.Files = AllOpen None
+  OpensStoreIf form.Sqlite = AndThen OpensGames (λ games. AllOpen (Some games))
+
+-- ---- all of it
+
+-- what a start opens: what the games have in common, at this port; the line that tells its address; and the games that keep their records in
+-- a store, if they do
+pub record OpenedHost (P S : Type 0) : Type 0 where
+  pub common : CommonView
+  pub port : P
+  pub line : List ℕ
+  pub store : Option (StoredGames S)
+
+abbrev pub opened_host : {P S : Type 0} → CommonView → P → List ℕ → Option (StoredGames S) → OpenedHost P S
+opened_host common port line store = record { common = common; port = port; line = line; store = store }
 
 module _ {T P F K S L : Type 0} (o : Outside T P F K S L) (h : HostGames) where
-  -- the games of the folder, with a file for each record
-  pub record RunsFiles (common : CommonView) (read : ℕ) (events : List Event) (status : Option ℕ) : Type 0 where
+  -- what is opened by what was read, one after the other
+  abbrev pub StartsHost : Given → Step (OpenedHost P S)
+  StartsHost given =
+      AndThen (GathersTables given h.cache)
+      (λ set.
+      AndThen (ListsGames o.disk h.games.now h.store)
+      (λ listed.
+      AndThen (MakesManifest given)
+      (λ manifest.
+      AndThen (BindsPort o h.bind.now h.to.now)
+      (λ port.
+      AndThen (IsReadyLine (o.port port).own)
+      (λ line.
+      AndThen (LocksFile o (games_lock h.games.now))
+      (λ held. AndThen (OpensStoreIf o h.games.now h.store) (λ store. AllOpen (opened_host (common_for h set manifest) port line store))))))))
+
+  -- the games of the folder run, with a file for each record
+  pub record RunsFiles (common : CommonView) (port : P) (events : List Event) (status : Option ℕ) : Type 0 where
     pub games : FolderGames
     pub folder : games.folder.now ≡ h.games.now
-    pub runs : BindsAndRuns o (folder_games_facts o) h read (served_with common games) events status
+    pub runs : RunsGames o (folder_games_facts o) h common games port events status
 
   -- or with a store
-  abbrev pub RunsStore : CommonView → ℕ → Doing
-  RunsStore common read = ThenOrRefused (OpensGames o h.games.now) (λ games. BindsAndRuns o (store_games_facts o) h read (served_with common games))
+  abbrev pub RunsKept : CommonView → P → Option (StoredGames S) → Doing
+  RunsKept common port None = RunsFiles common port
+  RunsKept common port (Some games) = RunsGames o (store_games_facts o) h common games port
 
-  -- as the words say
-  abbrev pub RunsKept : StoreForm → CommonView → ℕ → Doing
-  RunsKept form.Files common read = RunsFiles common read
-  RunsKept form.Sqlite common read = RunsStore common read
+  -- of how many files the tables were read is noted first
+  pub record NotesAndRuns (read : ℕ) (at : OpenedHost P S) (events : List Event) (status : Option ℕ) : Type 0 where
+    pub noting : List Event
+    pub rest : List Event
+    pub notes : MayNote (tables_line read) noting
+    pub runs : RunsKept at.common at.port at.store rest status
+    pub all : events ≡ noting ++ rest
 
-  -- under the lock of the folder
-  abbrev pub LocksAndRuns : CommonView → ℕ → Doing
-  LocksAndRuns common read = ThenOrRefused (LocksFile o (games_lock h.games.now)) (λ held. RunsKept h.store common read)
-
-  -- ---- all of it
-
-  -- by the manifest of the tables
-  abbrev pub MakesAndRuns : Given → Holding → Doing
-  MakesAndRuns given set = ThenOrRefused (MakesManifest given) (λ manifest. LocksAndRuns (common_for h set manifest) (length given.files))
-
-  -- after the folder of the games was listed
-  abbrev pub ListsAndRuns : Given → Holding → Doing
-  ListsAndRuns given set = ThenOrRefused (ListsGames o.disk h.games.now h.store) (λ listed. MakesAndRuns given set)
-
-  -- by what was read: the tables are refused first
+  -- the line goes out before that
   abbrev pub HostsBy : Given → Doing
-  HostsBy given = ThenOrRefused (GathersTables given h.cache) (ListsAndRuns given)
+  HostsBy given = ThenOrRefused (StartsHost given) (λ at. AfterText at.line (NotesAndRuns (length given.files) at))
 
   -- what the words name is read before all else
   abbrev pub Hosts : Doing

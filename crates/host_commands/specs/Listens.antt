@@ -28,9 +28,9 @@ use Rattle.timeline.specs.Events.{Event}
 use Rattle.timeline.specs.Outsides.{Outside}
 use Rattle.host_commands.specs.Binds.{BindsPort}
 use Rattle.host_commands.specs.Locks.{LocksFile, kept_lock}
-use Rattle.host_commands.specs.Ready.{TellsReady}
+use Rattle.host_commands.specs.Ready.{MakesLineIf}
 use Rattle.host_commands.specs.ServerRuns.{AnswersAll, IsServer}
-use Rattle.host_commands.specs.Steps.{Doing, ThenOrRefused}
+use Rattle.host_commands.specs.Steps.{AfterLine, AndThen, Doing, AllOpen, Step, ThenOrRefused}
 use Rattle.host_commands.specs.Tables.{GathersTables, MakesManifest, ReadsNamed}
 
 -- ---- what is served
@@ -108,36 +108,41 @@ module _ {T P F K S L G : Type 0} (o : Outside T P F K S L) (facts : GamesFacts 
   abbrev pub RunsOne : P → Doing
   RunsOne port = ThenOrRefused (IsServer s.common s.games) (OpensAndAnswers o facts l s.common.together s.stamp port)
 
-  -- under the lock of its file
-  abbrev pub LocksAndRuns : P → Doing
-  LocksAndRuns port = ThenOrRefused (LocksFile o (kept_lock l.kept.now)) (λ held. RunsOne port)
-
-  -- the address at which datagrams come is told before, where that is wanted
-  abbrev pub ReadyIf : Bool → P → Doing
-  ReadyIf false port = LocksAndRuns port
-  ReadyIf true port = TellsReady (o.port port).own (LocksAndRuns port)
-
-  abbrev pub BindsAndRuns : Doing
-  BindsAndRuns = ThenOrRefused (BindsPort o l.bind.now l.to.now) (ReadyIf l.ready)
-
 -- ---- all of it
 
 -- a set of tables keeps so many decoded blocks unless words say another number
 abbrev pub usual_cache : ℕ
 usual_cache = 64
 
+-- what a start opens: what is served, at this port, and the line that tells its address, where that is wanted
+pub record OpenedOne (P : Type 0) : Type 0 where
+  pub served : OneServed OneGameView
+  pub port : P
+  pub line : Option (List ℕ)
+
+abbrev pub opened_one : {P : Type 0} → OneServed OneGameView → P → Option (List ℕ) → OpenedOne P
+opened_one served port line = record { served = served; port = port; line = line }
+
 module _ {T P F K S L : Type 0} (o : Outside T P F K S L) (l : Listen) where
-  -- the arbiter of the game that the words tell, by these tables
-  abbrev pub RunsGame : Parts → Holding → List ℕ → Doing
-  RunsGame start set manifest = BindsAndRuns o (one_game_facts o) l (served_of l start set manifest)
+  -- what is opened by what was read, one after the other
+  abbrev pub StartsOne : Given → Step (OpenedOne P)
+  StartsOne given =
+      AndThen (IsStart l.start.now)
+      (λ start.
+      AndThen (GathersTables given usual_cache)
+      (λ set.
+      AndThen (MakesManifest given)
+      (λ manifest.
+      AndThen (BindsPort o l.bind.now l.to.now)
+      (λ port. AndThen (MakesLineIf l.ready (o.port port).own) (λ line. AllOpen (opened_one (served_of l start set manifest) port line))))))
 
-  -- by the tables that were read, and their manifest
-  abbrev pub ListensFrom : Given → Parts → Doing
-  ListensFrom given start = ThenOrRefused (GathersTables given usual_cache) (λ set. ThenOrRefused (MakesManifest given) (RunsGame start set))
+  -- under the lock of its file the arbiter of the game runs
+  abbrev pub LocksAndRuns : OneServed OneGameView → P → Doing
+  LocksAndRuns s port = ThenOrRefused (LocksFile o (kept_lock l.kept.now)) (λ held. RunsOne o (one_game_facts o) l s port)
 
-  -- by what was read: the text of the start is refused first
+  -- the line goes out before that
   abbrev pub ListensBy : Given → Doing
-  ListensBy given = ThenOrRefused (IsStart l.start.now) (ListensFrom given)
+  ListensBy given = ThenOrRefused (StartsOne given) (λ at. AfterLine at.line (LocksAndRuns at.served at.port))
 
   -- what the words name is read before all else
   abbrev pub Listens : Doing

@@ -1,12 +1,12 @@
 -- The line that tells the address of a port (this project's own).
-use Rattle.std.specs.Prelude.{◌≡◌, ℕ, List, [], Option, Some, None, Result, Ok, Err}
+use Rattle.std.specs.Prelude.{◌≡◌, ℕ, Bool, true, false, List, [], Option, Some, None, Result, Ok, Err}
 use Rattle.std.specs.declared.net.socket_addr.SocketAddr.{SocketAddr}
 use Rattle.answer_parts.specs.Lines.{ready_words}
 use Rattle.arbiter_server.specs.ServedLines.{refused_port}
 use Rattle.line_teller.specs.ToldLines.{refused_memory}
 use Rattle.move_msg.specs.TextLines.{ended}
 use Rattle.timeline.specs.Events.{Event}
-use Rattle.host_commands.specs.Steps.{AfterText, Doing, ThenOrRefused}
+use Rattle.host_commands.specs.Steps.{AndThen, AllOpen, Step}
 
 -- the line, with its line feed; or the address isn't known, or memory for the line was refused
 pub data IsReadyLine (own : Option SocketAddr) (result : Result (List ℕ) (List ℕ)) (events : List Event) : Type 0 where
@@ -14,6 +14,7 @@ pub data IsReadyLine (own : Option SocketAddr) (result : Result (List ℕ) (List
   NoAddress : own ≡ None → result ≡ Err refused_port → events ≡ [] → IsReadyLine own result events
   NoRoomForLine : result ≡ Err refused_memory → events ≡ [] → IsReadyLine own result events
 
--- it goes out before all else
-abbrev pub TellsReady : Option SocketAddr → Doing → Doing
-TellsReady own Rest = ThenOrRefused (IsReadyLine own) (λ line. AfterText line Rest)
+-- the same where it is wanted, and none where it isn't
+abbrev pub MakesLineIf : Bool → Option SocketAddr → Step (Option (List ℕ))
+MakesLineIf false own = AllOpen None
+MakesLineIf true own = AndThen (IsReadyLine own) (λ line. AllOpen (Some line))

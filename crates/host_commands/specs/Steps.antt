@@ -12,6 +12,17 @@ Doing = List Event → Option ℕ → Type 0
 abbrev pub Step : Type 0 → Type 1
 Step A = Result A (List ℕ) → List Event → Type 0
 
+-- nothing more happens: this is what was opened
+abbrev pub AllOpen : {A : Type 0} → A → Step A
+AllOpen a result events = (result ≡ Ok a) × (events ≡ [])
+
+-- A start, as a list of steps: the first one, and then those that follow from what it gave. Where one of them is refused, the start is by the
+-- same words, and none behind it is done.
+module _ {A B : Type 0} (First : Step A) (Next : A → Step B) where
+  pub data AndThen (result : Result B (List ℕ)) (events : List Event) : Type 0 where
+    BothDone : (a : A) (first rest : List Event) → First (Ok a) first → Next a result rest → events ≡ first ++ rest → AndThen result events
+    FirstIsRefused : (words : List ℕ) → First (Err words) events → result ≡ Err words → AndThen result events
+
 -- these words are written, and nothing else
 abbrev pub refused_by : List ℕ → List Event
 refused_by words = printed (words ∷ [])
@@ -30,3 +41,8 @@ gone_out text = Wrote Output text ∷ Flushed Output ∷ []
 pub data AfterText (text : List ℕ) (Rest : Doing) (events : List Event) (status : Option ℕ) : Type 0 where
   ThenRest : (rest : List Event) → Rest rest status → events ≡ gone_out text ++ rest → AfterText text Rest events status
   TextFirst : events ≡ gone_out text → status ≡ None → AfterText text Rest events status
+
+-- where there is one
+abbrev pub AfterLine : Option (List ℕ) → Doing → Doing
+AfterLine None Rest = Rest
+AfterLine (Some text) Rest = AfterText text Rest

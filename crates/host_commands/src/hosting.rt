@@ -6,8 +6,8 @@ ghost use Rattle.answer_parts.specs.Printing.{OutputFails};
 ghost use Rattle.arbiter_server.specs.Games.{common_with};
 ghost use Rattle.game_server.specs.Printing.{KnowsLines, OfGames, form_in};
 ghost use Rattle.game_server.specs.Seats.{AreSeats};
-ghost use Rattle.host_commands.specs.Hosts.{Hosts, HostsBy, common_for, tables_line, together_of};
-ghost use Rattle.host_commands.specs.Inside.HostParts.{AnswersIn, BindsIn, GoesOnIn, HostDoes, KeepsIn, LocksIn, NotesIn, RunsIn, StoresIn, TellsIn};
+ghost use Rattle.host_commands.specs.Hosts.{Hosts, HostsBy, StartsHost, common_for, tables_line, together_of};
+ghost use Rattle.host_commands.specs.Inside.HostParts.{AnswersIn, GoesOnIn, HostDoes, KeptIn, RunsIn, all_opened};
 ghost use Rattle.host_commands.specs.Notes.{MayNote};
 ghost use Rattle.host_commands.specs.Outliving.{PerformsOutliving};
 ghost use Rattle.judge_core.specs.Tables.{Holding};
@@ -18,12 +18,12 @@ use crate::listing::list_games;
 use crate::locking::{IN_GAMES, lock};
 use crate::noting::note_line;
 use crate::ready::{print_out, ready_line};
-use crate::store_opening::open_games;
+use crate::store_opening::open_kept;
 use crate::tables::{make_manifest, tables_of};
 use answer_parts::{Refusal, print_refusal, print_unread};
 use arbiter_server::{LineLog, ServerConfig};
 use command_line::{HostGames, StoreForm};
-use game_folder::{FolderGames, Games};
+use game_folder::{FolderGames, Games, StoreGames};
 use game_server::{Lines, PortServer, serve};
 use judge_core::Set;
 use std::alloc::{AllocError, Global};
@@ -32,11 +32,16 @@ use system_io::WriteFault;
 use task_files::{Inputs, read_inputs};
 use timeline::System;
 
-/// What games are hosted from: the words, and of how many files the tables were read.
+/// What a start opens: the tables and their manifest; a port, and the line that tells its address; the lock of the folder, and its store,
+/// where records are kept in one.
 #[derive(Drop)]
-struct HostPlan<'h, 'w> {
-    task: &'h HostGames<'w>,
-    read: usize,
+struct Opened<'a, P: Drop, K: Drop, G: Drop> {
+    tables: Set<'a>,
+    manifest: Vec<u8>,
+    port: P,
+    line: String,
+    held: K,
+    store: Option<G>,
 }
 
 /// What a server of games is made of.
@@ -143,137 +148,6 @@ fn note_tables<S: System>(alloc: Global, system: &S, timeline: &mut S::Timeline,
     note_line(system, timeline, tables_words(alloc, read));
 }
 
-/// Notes of how many files tables were read, and serves the games at a port.
-fn note_and_serve<'a, S: System, G: Games<S> + Drop>(
-    alloc: Global,
-    plan: &HostPlan<'_, '_>,
-    served: GamesServed<'a, G>,
-    port: &mut S::Port,
-    system: &S,
-    timeline: &mut S::Timeline,
-) -> Result<u8, WriteFault>
-    ensures made { NotesIn (S.outside system.now) (G.facts system.now) plan.now served.entry port.old timeline.old timeline.new result }
-    ensures cause { OnErr result (OutputFails (S.outside system.now)) }
-{
-    note_tables(alloc, system, timeline, plan.read);
-    serve_games(alloc, plan.task, served, port, system, timeline)
-}
-
-/// Tells the address at which a port listens, and serves the games there when that line has gone out.
-fn tell_and_serve<'a, S: System, G: Games<S> + Drop>(
-    alloc: Global,
-    plan: &HostPlan<'_, '_>,
-    served: GamesServed<'a, G>,
-    port: &mut S::Port,
-    system: &S,
-    timeline: &mut S::Timeline,
-) -> Result<u8, WriteFault>
-    ensures made { TellsIn (S.outside system.now) (G.facts system.now) plan.now served.entry port.old timeline.old timeline.new result }
-    ensures cause { OnErr result (OutputFails (S.outside system.now)) }
-{
-    let line = match ready_line(alloc, system, port) {
-        Ok(line) => line,
-        Err(refusal) => return print_refusal(system, timeline, refusal),
-    };
-    match print_out(system, timeline, line.as_str()) {
-        Ok(()) => note_and_serve(alloc, plan, served, port, system, timeline),
-        Err(fault) => Err(fault),
-    }
-}
-
-/// Binds the address that the words name, and serves games there.
-fn bind_and_serve<'a, S: System, G: Games<S> + Drop>(
-    alloc: Global,
-    plan: &HostPlan<'_, '_>,
-    served: GamesServed<'a, G>,
-    system: &S,
-    timeline: &mut S::Timeline,
-) -> Result<u8, WriteFault>
-    ensures made { BindsIn (S.outside system.now) (G.facts system.now) plan.now served.entry timeline.old timeline.new result }
-    ensures cause { OnErr result (OutputFails (S.outside system.now)) }
-{
-    match bind(alloc, system, timeline, plan.task.bind, plan.task.to) {
-        Ok(mut port) => tell_and_serve(alloc, plan, served, &mut port, system, timeline),
-        Err(refusal) => print_refusal(system, timeline, refusal),
-    }
-}
-
-/// What all games of a server have in common, and how many are open at once.
-#[derive(Drop)]
-struct Common<'a> {
-    config: ServerConfig<'a>,
-    tables: Set<'a>,
-}
-
-/// Opens the store of the folder, and serves the games, whose records are kept there.
-fn store_and_serve<'a, S: System>(
-    alloc: Global,
-    plan: &HostPlan<'_, '_>,
-    common: Common<'a>,
-    system: &S,
-    timeline: &mut S::Timeline,
-) -> Result<u8, WriteFault>
-    ensures made { StoresIn (S.outside system.now) plan.now common.entry timeline.old timeline.new result }
-    ensures cause { OnErr result (OutputFails (S.outside system.now)) }
-{
-    match open_games(alloc, system, timeline, plan.task.games) {
-        Ok(games) => {
-            let Common { config, tables } = common;
-            let served = GamesServed {
-                config,
-                tables,
-                games,
-            };
-            bind_and_serve(alloc, plan, served, system, timeline)
-        }
-        Err(refusal) => print_refusal(system, timeline, refusal),
-    }
-}
-
-/// Serves the games of the folder, whose records are kept as the words say.
-fn keep_and_serve<'a, S: System>(
-    alloc: Global,
-    plan: &HostPlan<'_, '_>,
-    common: Common<'a>,
-    system: &S,
-    timeline: &mut S::Timeline,
-) -> Result<u8, WriteFault>
-    ensures made { KeepsIn (S.outside system.now) plan.now common.entry timeline.old timeline.new result }
-    ensures cause { OnErr result (OutputFails (S.outside system.now)) }
-{
-    match plan.task.store {
-        StoreForm::Files => {
-            let Common { config, tables } = common;
-            let served = GamesServed {
-                config,
-                tables,
-                games: FolderGames {
-                    folder: plan.task.games,
-                },
-            };
-            bind_and_serve(alloc, plan, served, system, timeline)
-        }
-        StoreForm::Sqlite => store_and_serve(alloc, plan, common, system, timeline),
-    }
-}
-
-/// Locks the folder of games, and serves them as long as it is locked.
-fn lock_and_serve<'a, S: System>(
-    alloc: Global,
-    plan: &HostPlan<'_, '_>,
-    common: Common<'a>,
-    system: &S,
-    timeline: &mut S::Timeline,
-) -> Result<u8, WriteFault>
-    ensures made { LocksIn (S.outside system.now) plan.now common.entry timeline.old timeline.new result }
-    ensures cause { OnErr result (OutputFails (S.outside system.now)) }
-{
-    match lock(alloc, system, timeline, plan.task.games, IN_GAMES) {
-        Ok(_held) => keep_and_serve(alloc, plan, common, system, timeline),
-        Err(refusal) => print_refusal(system, timeline, refusal),
-    }
-}
-
 /// How the server is set up, by the manifest of its tables.
 fn config_for<'a>(task: &HostGames<'_>, manifest: &'a [u8]) -> ServerConfig<'a>
     ensures { (set : Holding) → common_with result set ≡ common_for task.now set manifest.entry.now }
@@ -286,7 +160,71 @@ fn config_for<'a>(task: &HostGames<'_>, manifest: &'a [u8]) -> ServerConfig<'a>
     }
 }
 
-/// Serves the games of the folder by what was read: the tables are refused first, and then the folder.
+/// Opens all that the games of the folder are served with, one after the other, or tells what of it is refused.
+fn open_all<'a, 'f, S: System>(
+    alloc: Global,
+    task: &HostGames<'f>,
+    sources: &'a Inputs,
+    system: &S,
+    timeline: &mut S::Timeline,
+) -> Result<Opened<'a, S::Port, S::Lock, StoreGames<'f, S>>, Refusal>
+    ensures { AddsSome (S.outside system.now) timeline.old timeline.new (StartsHost (S.outside system.now) task.now sources.now (all_opened task.now result)) }
+{
+    let tables = tables_of(alloc, sources, task.cache)?;
+    list_games(alloc, system, timeline, task.games, task.store)?;
+    let manifest = make_manifest(alloc, sources)?;
+    let port = bind(alloc, system, timeline, task.bind, task.to)?;
+    let line = ready_line(alloc, system, &port)?;
+    let held = lock(alloc, system, timeline, task.games, IN_GAMES)?;
+    let store = open_kept(alloc, system, timeline, task.games, task.store)?;
+    Ok(Opened {
+        tables,
+        manifest,
+        port,
+        line,
+        held,
+        store,
+    })
+}
+
+/// Serves the games of the folder at a port, each with a file for its record, or all with the store, where there is one.
+fn serve_kept<'a, 'f, S: System>(
+    alloc: Global,
+    task: &HostGames<'_>,
+    served: GamesServed<'a, Option<StoreGames<'f, S>>>,
+    port: &mut S::Port,
+    system: &S,
+    timeline: &mut S::Timeline,
+) -> Result<u8, WriteFault>
+    ensures made { KeptIn (S.outside system.now) task.now served.entry port.old timeline.old timeline.new result }
+    ensures cause { OnErr result (OutputFails (S.outside system.now)) }
+{
+    let GamesServed {
+        config,
+        tables,
+        games,
+    } = served;
+    match games {
+        None => {
+            let served = GamesServed {
+                config,
+                tables,
+                games: FolderGames { folder: task.games },
+            };
+            serve_games(alloc, task, served, port, system, timeline)
+        }
+        Some(games) => {
+            let served = GamesServed {
+                config,
+                tables,
+                games,
+            };
+            serve_games(alloc, task, served, port, system, timeline)
+        }
+    }
+}
+
+/// Serves the games of the folder by what was read, when all is open and the line that tells the address has gone out.
 fn host_by<S: System>(
     alloc: Global,
     task: &HostGames<'_>,
@@ -297,33 +235,35 @@ fn host_by<S: System>(
     ensures made { HostDoes (S.outside system.now) task.now (HostsBy (S.outside system.now) task.now sources.now) timeline.old timeline.new result }
     ensures cause { OnErr result (OutputFails (S.outside system.now)) }
 {
-    let tables = match tables_of(alloc, sources, task.cache) {
-        Ok(tables) => tables,
+    let opened = match open_all(alloc, task, sources, system, timeline) {
+        Ok(opened) => opened,
         Err(refusal) => return print_refusal(system, timeline, refusal),
     };
-    match list_games(alloc, system, timeline, task.games, task.store) {
+    let Opened {
+        tables,
+        manifest,
+        mut port,
+        line,
+        held: _held,
+        store,
+    } = opened;
+    match print_out(system, timeline, line.as_str()) {
         Ok(()) => {}
-        Err(refusal) => return print_refusal(system, timeline, refusal),
+        Err(fault) => return Err(fault),
     }
-    let manifest = match make_manifest(alloc, sources) {
-        Ok(manifest) => manifest,
-        Err(refusal) => return print_refusal(system, timeline, refusal),
-    };
-    let plan = HostPlan {
-        task,
-        read: sources.files().len(),
-    };
-    let common = Common {
+    note_tables(alloc, system, timeline, sources.files().len());
+    let served = GamesServed {
         config: config_for(task, &manifest),
         tables,
+        games: store,
     };
-    lock_and_serve(alloc, &plan, common, system, timeline)
+    serve_kept(alloc, task, served, &mut port, system, timeline)
 }
 
 /// Answers the datagrams of any number of games as the words say, each by the arbiter of its game, and returns the status.
 ///
 /// The files of the tables are read first. What is refused is written in one line, in this order: the tables, the folder of games, a store
-/// there that wouldn't be used or is half there, the folder's lock, its store, records that can't go over into that, and the address. Where
+/// there that wouldn't be used or is half there, the address, the folder's lock, its store, and records that can't go over into that. Where
 /// memory is refused the line is `refused memory`. Then the line `ready` with the address at which datagrams come goes out, and then a line
 /// for each datagram, as `game_server::serve` has it. It is noted of how many files tables were read, why a store isn't opened, which files
 /// hold no record of their games, and where a log is lost that the games outlive. The error comes only where the output may fail; where the

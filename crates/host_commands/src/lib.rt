@@ -4,11 +4,15 @@
 //! address and runs a server of games (`serve` of game_server), of one game or of many. The contract has every event, in order, and says
 //! that there is no other one. Where the output fails, that is a front of them.
 //!
+//! A start is a list of steps, in one order for both: what is read; the text of the start of `listen`; the tables; the folder of games of
+//! `host`, as it is listed; the address; the lock; what records are kept in. What can be opened is, up to the first that is refused
+//! (`open_one`, `open_all`). Then the line of the refusal is written, or the address is told and the run begins.
+//!
 //! Inside: `noting` (lines that are noted), `binding` (a port at the addresses of two words, also for `send`), `locking`, `ready` (the line
 //! that tells an address), `listening`; of `host` `listing` (its folder), `arriving` (the file of a record that goes over), `importing`
 //! (all of them), `store_opening`, `hosting`; of both `tables` (what was read) and `serving` (a run).
 //!
-//! Definitions, in reading order: `Notes`, `Binds`, `Locks`, `Ready`, `ServerRuns` (`AnswersAll`), `Listens` (`Listens`); `Listings`,
+//! Definitions, in reading order: `Notes`, `Steps` (`AndThen`, `ThenOrRefused`), `Binds`, `Locks`, `Ready`, `ServerRuns` (`AnswersAll`), `Listens` (`Listens`); `Listings`,
 //! `Imports` (`ImportsRecords`), `Hosts` (`Hosts`), `Outliving` (`PerformsOutliving`).
 //!
 //! - CLAIM: `listen`, clause `made`: what the words name is read first; then are refused in this order the text of the start, the tables, the
@@ -16,8 +20,9 @@
 //!   `ready ADDR` has gone out before the lock is taken. The game is opened before the first datagram is awaited, and its record put where
 //!   there was none; with `--fetch` its request for moves is sent then.
 //! - CLAIM: `host_games`, clause `made`: what the words name is read first; then are refused in this order the tables, the folder of the
-//!   games, its lock, its store and the records that go over into it, and the address. Each record of a file that the store hasn't is put
-//!   there, all at once, before the port is bound. The line `ready ADDR` has gone out before a datagram is awaited.
+//!   games, the address, the lock of the folder, its store and the records that go over into it. Each record of a file that the store hasn't
+//!   is put there, all at once. Where the address can't be bound nothing is locked or put. The line `ready ADDR` has gone out behind all
+//!   that, before a datagram is awaited.
 //! - CLAIM: `listen`, `host_games`, clauses `made`: what follows is a run of `serve` of game_server, over the game's file, the folder's files
 //!   or its store. Of `host` a run that goes on without lines, behind one that can't be written, is one whose words ask for that.
 //! - CLAIM: `host_games`, clause `made`: where its words ask that the games outlive their log, an output that fails ends it only before a

@@ -1,16 +1,17 @@
 //! `listen`: an arbiter of one game, at a port.
 
-ghost use Rattle.std.specs.Prelude.{◌≡◌, OnErr};
+ghost use Rattle.std.specs.Prelude.{◌≡◌, [], OnErr};
 ghost use Rattle.answer_parts.specs.Lines.{refusal_words};
 ghost use Rattle.answer_parts.specs.Printing.{OutputFails, Performs};
 ghost use Rattle.game_server.specs.Seats.{AreSeats};
-ghost use Rattle.host_commands.specs.Inside.Parts.{AsksIfIn, BindsIn, LocksIn, OpensAndAnswersIn, RunsIn, StartsIn, TellsIn, served_one};
-ghost use Rattle.host_commands.specs.Listens.{Listens, ListensBy, ListensFrom, game_of, served_of, unopened_refusal};
+ghost use Rattle.host_commands.specs.Inside.Parts.{AsksIfIn, DoesIn, LocksIn, OpensAndAnswersIn, RunsIn, one_opened, served_one};
+ghost use Rattle.host_commands.specs.Listens.{IsStart, Listens, ListensBy, StartsOne, game_of, served_of, unopened_refusal};
+ghost use Rattle.host_commands.specs.Notes.{in_words};
 ghost use Rattle.timeline.specs.Outsides.{AddsSome, HeardNothing};
 
 use crate::binding::bind;
 use crate::locking::{BESIDE_KEPT, lock};
-use crate::ready::{print_out, ready_line};
+use crate::ready::{print_line, ready_if};
 use crate::serving::serve_all;
 use crate::tables::{make_manifest, tables_of};
 use answer_parts::{Refusal, print_refusal, print_unread};
@@ -28,6 +29,17 @@ use std::num::NonZeroUsize;
 use system_io::WriteFault;
 use task_files::{Inputs, read_inputs};
 use timeline::System;
+
+/// What a start opens: the position of the text, the tables and their manifest, a port, and the line that tells its address, where that is
+/// wanted.
+#[derive(Drop)]
+struct Opened<'a, P: Drop> {
+    start: Position,
+    tables: Set<'a>,
+    manifest: Vec<u8>,
+    port: P,
+    line: Option<String>,
+}
 
 /// What a server of one game is made of.
 #[derive(Drop)]
@@ -117,82 +129,6 @@ fn serve_one<'a, S: System, G: Games<S> + Drop>(
     }
 }
 
-/// Locks the file in which the record is kept, and serves the game as long as it is locked.
-fn lock_and_serve<'a, S: System, G: Games<S> + Drop>(
-    alloc: Global,
-    task: &Listen<'_>,
-    served: OneServed<'a, G>,
-    port: &mut S::Port,
-    system: &S,
-    timeline: &mut S::Timeline,
-) -> Result<u8, WriteFault>
-    ensures made { LocksIn (S.outside system.now) (G.facts system.now) task.now served.entry port.old timeline.old timeline.new result }
-    ensures cause { OnErr result (OutputFails (S.outside system.now)) }
-{
-    match lock(alloc, system, timeline, task.kept, BESIDE_KEPT) {
-        Ok(_held) => serve_one(alloc, task, served, port, system, timeline),
-        Err(refusal) => print_refusal(system, timeline, refusal),
-    }
-}
-
-/// Tells the address at which datagrams come, and serves the game when that line has gone out.
-fn tell_and_serve<'a, S: System, G: Games<S> + Drop>(
-    alloc: Global,
-    task: &Listen<'_>,
-    served: OneServed<'a, G>,
-    port: &mut S::Port,
-    system: &S,
-    timeline: &mut S::Timeline,
-) -> Result<u8, WriteFault>
-    ensures made { TellsIn (S.outside system.now) (G.facts system.now) task.now served.entry port.old timeline.old timeline.new result }
-    ensures cause { OnErr result (OutputFails (S.outside system.now)) }
-{
-    let line = match ready_line(alloc, system, port) {
-        Ok(line) => line,
-        Err(refusal) => return print_refusal(system, timeline, refusal),
-    };
-    match print_out(system, timeline, line.as_str()) {
-        Ok(()) => lock_and_serve(alloc, task, served, port, system, timeline),
-        Err(fault) => Err(fault),
-    }
-}
-
-/// Serves the game at a port; before that its address is told, where that is wanted.
-fn start_at<'a, S: System, G: Games<S> + Drop>(
-    alloc: Global,
-    task: &Listen<'_>,
-    served: OneServed<'a, G>,
-    port: &mut S::Port,
-    system: &S,
-    timeline: &mut S::Timeline,
-) -> Result<u8, WriteFault>
-    ensures made { StartsIn (S.outside system.now) (G.facts system.now) task.now served.entry port.old timeline.old timeline.new result }
-    ensures cause { OnErr result (OutputFails (S.outside system.now)) }
-{
-    if task.ready {
-        tell_and_serve(alloc, task, served, port, system, timeline)
-    } else {
-        lock_and_serve(alloc, task, served, port, system, timeline)
-    }
-}
-
-/// Binds the address that the words name, and serves the game there.
-fn bind_and_serve<'a, S: System, G: Games<S> + Drop>(
-    alloc: Global,
-    task: &Listen<'_>,
-    served: OneServed<'a, G>,
-    system: &S,
-    timeline: &mut S::Timeline,
-) -> Result<u8, WriteFault>
-    ensures made { BindsIn (S.outside system.now) (G.facts system.now) task.now served.entry timeline.old timeline.new result }
-    ensures cause { OnErr result (OutputFails (S.outside system.now)) }
-{
-    match bind(alloc, system, timeline, task.bind, task.to) {
-        Ok(mut port) => start_at(alloc, task, served, &mut port, system, timeline),
-        Err(refusal) => print_refusal(system, timeline, refusal),
-    }
-}
-
 /// The game that the words tell from this start, by tables with this manifest.
 fn one_game<'t>(task: &Listen<'t>, start: Position, manifest: &[u8]) -> OneGame<'t>
     ensures { result ≡ game_of task.now start manifest.now }
@@ -228,31 +164,60 @@ fn served_from<'a, 't>(
     }
 }
 
-/// Serves the game from this start by the tables that were read, which are refused first.
-fn listen_from<S: System>(
+/// The position that the text of the start spells, or why it spells none.
+fn start_of(task: &Listen<'_>) -> Result<Position, Refusal>
+    ensures { IsStart task.now.start.now (in_words result) [] }
+{
+    match read(task.start.as_bytes()) {
+        Ok(start) => Ok(start),
+        Err(fault) => Err(Refusal::Fen(fault)),
+    }
+}
+
+/// Opens what the game is served with, up to its port, one after the other, or tells what of it is refused.
+fn open_one<'a, S: System>(
     alloc: Global,
     task: &Listen<'_>,
-    sources: &Inputs,
-    start: Position,
+    sources: &'a Inputs,
+    system: &S,
+    timeline: &mut S::Timeline,
+) -> Result<Opened<'a, S::Port>, Refusal>
+    ensures { AddsSome (S.outside system.now) timeline.old timeline.new (StartsOne (S.outside system.now) task.now sources.now (one_opened task.now result)) }
+{
+    let start = start_of(task)?;
+    let tables = tables_of(alloc, sources, CacheSize::usual())?;
+    let manifest = make_manifest(alloc, sources)?;
+    let port = bind(alloc, system, timeline, task.bind, task.to)?;
+    let line = ready_if(alloc, system, &port, task.ready)?;
+    Ok(Opened {
+        start,
+        tables,
+        manifest,
+        port,
+        line,
+    })
+}
+
+/// Locks the file in which the record is kept, and serves the game at a port as long as it is locked.
+fn lock_and_serve<S: System>(
+    alloc: Global,
+    task: &Listen<'_>,
+    served: OneServed<'_, OneGame<'_>>,
+    port: &mut S::Port,
     system: &S,
     timeline: &mut S::Timeline,
 ) -> Result<u8, WriteFault>
-    ensures made { AddsSome (S.outside system.now) timeline.old timeline.new (Performs (ListensFrom (S.outside system.now) task.now sources.now start) result) }
+    ensures made { LocksIn (S.outside system.now) task.now served.entry port.old timeline.old timeline.new result }
     ensures cause { OnErr result (OutputFails (S.outside system.now)) }
 {
-    let tables = match tables_of(alloc, sources, CacheSize::usual()) {
-        Ok(tables) => tables,
-        Err(refusal) => return print_refusal(system, timeline, refusal),
-    };
-    let manifest = match make_manifest(alloc, sources) {
-        Ok(manifest) => manifest,
-        Err(refusal) => return print_refusal(system, timeline, refusal),
-    };
-    let served = served_from(task, start, tables, &manifest);
-    bind_and_serve(alloc, task, served, system, timeline)
+    match lock(alloc, system, timeline, task.kept, BESIDE_KEPT) {
+        Ok(_held) => serve_one(alloc, task, served, port, system, timeline),
+        Err(refusal) => print_refusal(system, timeline, refusal),
+    }
 }
 
-/// Serves the game that the words tell, by what was read.
+/// Serves the game that the words tell by what was read, when its port is open and the line that tells its address, where that is wanted,
+/// has gone out.
 fn listen_by<S: System>(
     alloc: Global,
     task: &Listen<'_>,
@@ -260,13 +225,26 @@ fn listen_by<S: System>(
     system: &S,
     timeline: &mut S::Timeline,
 ) -> Result<u8, WriteFault>
-    ensures made { AddsSome (S.outside system.now) timeline.old timeline.new (Performs (ListensBy (S.outside system.now) task.now sources.now) result) }
+    ensures made { DoesIn (S.outside system.now) (ListensBy (S.outside system.now) task.now sources.now) timeline.old timeline.new result }
     ensures cause { OnErr result (OutputFails (S.outside system.now)) }
 {
-    match read(task.start.as_bytes()) {
-        Ok(start) => listen_from(alloc, task, sources, start, system, timeline),
-        Err(fault) => print_refusal(system, timeline, Refusal::Fen(fault)),
+    let opened = match open_one(alloc, task, sources, system, timeline) {
+        Ok(opened) => opened,
+        Err(refusal) => return print_refusal(system, timeline, refusal),
+    };
+    let Opened {
+        start,
+        tables,
+        manifest,
+        mut port,
+        line,
+    } = opened;
+    match print_line(system, timeline, &line) {
+        Ok(()) => {}
+        Err(fault) => return Err(fault),
     }
+    let served = served_from(task, start, tables, &manifest);
+    lock_and_serve(alloc, task, served, &mut port, system, timeline)
 }
 
 /// Opens an arbiter as its words say, answers datagrams, and returns the status.

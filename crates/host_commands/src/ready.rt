@@ -1,9 +1,10 @@
 //! The line that tells the address of a port.
 
-ghost use Rattle.std.specs.Prelude.{◌≡◌, string_bytes, IfOk, OnErr};
+ghost use Rattle.std.specs.Prelude.{◌≡◌, [], string_bytes, IfOk, OnErr};
 ghost use Rattle.answer_parts.specs.Lines.{ready_words};
 ghost use Rattle.answer_parts.specs.Printing.{OutputFails, Performs};
-ghost use Rattle.host_commands.specs.Inside.Parts.{GivesReadyLine, GoesOut};
+ghost use Rattle.host_commands.specs.Inside.Parts.{GivesReadyLine, GoesOut, GoesOutIf, line_if_taken, line_in};
+ghost use Rattle.host_commands.specs.Ready.{MakesLineIf};
 ghost use Rattle.move_msg.specs.TextLines.{ended};
 ghost use Rattle.timeline.specs.Outsides.{AddsSome};
 
@@ -38,6 +39,24 @@ pub(crate) fn ready_line<S: System>(
     }
 }
 
+/// The same where it is wanted, and none where it isn't.
+pub(crate) fn ready_if<S: System>(
+    alloc: Global,
+    system: &S,
+    port: &S::Port,
+    is_wanted: bool,
+) -> Result<Option<String>, Refusal>
+    ensures { MakesLineIf is_wanted ((S.outside system.now).port port.now).own (line_if_taken result) [] }
+{
+    if !is_wanted {
+        return Ok(None);
+    }
+    match ready_line(alloc, system, port) {
+        Ok(line) => Ok(Some(line)),
+        Err(refusal) => Err(refusal),
+    }
+}
+
 /// Writes a text, and lets it go out at once.
 pub(crate) fn print_out<S: System>(
     system: &S,
@@ -50,5 +69,20 @@ pub(crate) fn print_out<S: System>(
     match system.write(timeline, Stream::Output, text.as_bytes()) {
         Ok(()) => system.flush(timeline, Stream::Output),
         Err(fault) => Err(fault),
+    }
+}
+
+/// Writes a line, where there is one, and lets it go out at once.
+pub(crate) fn print_line<S: System>(
+    system: &S,
+    timeline: &mut S::Timeline,
+    line: &Option<String>,
+) -> Result<(), WriteFault>
+    ensures made { AddsSome (S.outside system.now) timeline.old timeline.new (Performs (GoesOutIf (line_in line.now)) result) }
+    ensures cause { OnErr result (OutputFails (S.outside system.now)) }
+{
+    match line {
+        Some(line) => print_out(system, timeline, line.as_str()),
+        None => Ok(()),
     }
 }

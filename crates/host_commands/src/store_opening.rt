@@ -3,7 +3,7 @@
 ghost use Rattle.std.specs.Prelude.{string_bytes, IfOk};
 ghost use Rattle.arbiter_server.specs.GameFolders.{kept_path};
 ghost use Rattle.game_status.specs.StoreReadings.{store_path};
-ghost use Rattle.host_commands.specs.Hosts.{KeepsInStore, OpensGames};
+ghost use Rattle.host_commands.specs.Hosts.{KeepsInStore, OpensGames, OpensStoreIf};
 ghost use Rattle.host_commands.specs.Imports.{IsLeftLine, NotesAllLeft, NotesLeft, OpensStore};
 ghost use Rattle.host_commands.specs.Notes.{in_words};
 ghost use Rattle.system_io.specs.Records.{IsSettled};
@@ -13,6 +13,7 @@ use crate::importing::import_records;
 use crate::noting::note_line;
 use answer_parts::Refusal;
 use arbiter_server::kept_path;
+use command_line::StoreForm;
 use game_folder::StoreGames;
 use game_status::{STORE_NAME, path_in};
 use move_msg::Stamp;
@@ -112,7 +113,7 @@ fn games_over<'f, S: System>(
 
 /// Opens the store of the folder, lets the records of files go over into it that it hasn't, and notes which files hold none. A store that
 /// can't be opened or written is refused as `Store`, a record that can't be read as `Keeper`.
-pub(crate) fn open_games<'f, S: System>(
+fn open_games<'f, S: System>(
     alloc: Global,
     system: &S,
     timeline: &mut S::Timeline,
@@ -123,5 +124,24 @@ pub(crate) fn open_games<'f, S: System>(
     match open_store(alloc, system, timeline, folder) {
         Ok(store) => games_over(alloc, system, timeline, folder, store),
         Err(refusal) => Err(refusal),
+    }
+}
+
+/// Opens the store of the folder, where the records of its games are kept in one.
+pub(crate) fn open_kept<'f, S: System>(
+    alloc: Global,
+    system: &S,
+    timeline: &mut S::Timeline,
+    folder: &'f str,
+    form: StoreForm,
+) -> Result<Option<StoreGames<'f, S>>, Refusal>
+    ensures { AddsSome (S.outside system.now) timeline.old timeline.new (OpensStoreIf (S.outside system.now) folder.entry.now form (in_words result)) }
+{
+    match form {
+        StoreForm::Files => Ok(None),
+        StoreForm::Sqlite => match open_games(alloc, system, timeline, folder) {
+            Ok(games) => Ok(Some(games)),
+            Err(refusal) => Err(refusal),
+        },
     }
 }
