@@ -8,6 +8,7 @@ ghost use Rattle.game_server.specs.Printing.{KnowsLines, OfGames, form_in};
 ghost use Rattle.game_server.specs.Seats.{AreSeats};
 ghost use Rattle.host_commands.specs.Hosts.{Hosts, HostsBy, common_for, tables_line, together_of};
 ghost use Rattle.host_commands.specs.Inside.HostParts.{AnswersIn, BindsIn, GoesOnIn, HostDoes, KeepsIn, LocksIn, NotesIn, RunsIn, StoresIn, TellsIn};
+ghost use Rattle.host_commands.specs.Locks.{games_lock};
 ghost use Rattle.host_commands.specs.Notes.{MayNote};
 ghost use Rattle.host_commands.specs.Outliving.{PerformsOutliving};
 ghost use Rattle.judge_core.specs.Tables.{Holding};
@@ -230,14 +231,16 @@ fn store_and_serve<'a, S: System>(
     }
 }
 
-/// Serves the games of the folder, whose records are kept as the words say.
+/// Serves the games of the folder, whose records are kept as the words say. The lock of the folder is lent, so that it is held meanwhile.
 fn keep_and_serve<'a, S: System>(
     alloc: Global,
     plan: &HostPlan<'_, '_>,
     common: Common<'a>,
+    _held: &S::Lock,
     system: &S,
     timeline: &mut S::Timeline,
 ) -> Result<u8, WriteFault>
+    requires { (S.outside system.now).lock_path _held.now ≡ games_lock plan.now.task.now.games.now }
     ensures made { KeepsIn (S.outside system.now) plan.now common.entry timeline.old timeline.new result }
     ensures cause { OnErr result (OutputFails (S.outside system.now)) }
 {
@@ -269,7 +272,7 @@ fn lock_and_serve<'a, S: System>(
     ensures cause { OnErr result (OutputFails (S.outside system.now)) }
 {
     match lock(alloc, system, timeline, plan.task.games, IN_GAMES) {
-        Ok(_held) => keep_and_serve(alloc, plan, common, system, timeline),
+        Ok(held) => keep_and_serve(alloc, plan, common, &held, system, timeline),
         Err(refusal) => print_refusal(system, timeline, refusal),
     }
 }

@@ -6,6 +6,7 @@ ghost use Rattle.answer_parts.specs.Printing.{OutputFails, Performs};
 ghost use Rattle.game_server.specs.Seats.{AreSeats};
 ghost use Rattle.host_commands.specs.Inside.Parts.{AsksIfIn, BindsIn, LocksIn, OpensAndAnswersIn, RunsIn, StartsIn, TellsIn, served_one};
 ghost use Rattle.host_commands.specs.Listens.{Listens, ListensBy, ListensFrom, game_of, served_of, unopened_refusal};
+ghost use Rattle.host_commands.specs.Locks.{kept_lock};
 ghost use Rattle.timeline.specs.Outsides.{AddsSome, HeardNothing};
 
 use crate::binding::bind;
@@ -32,6 +33,7 @@ use timeline::System;
 /// What a server of one game is made of.
 #[derive(Drop)]
 pub(crate) struct OneServed<'a, G: Drop> {
+    alloc: Global,
     config: ServerConfig<'a>,
     tables: Set<'a>,
     games: G,
@@ -93,19 +95,21 @@ fn open_and_serve<'a, S: System, G: Games<S> + Drop>(
     }
 }
 
-/// Makes a server, and serves the game at a port.
+/// Makes a server, and serves the game at a port. The lock of the file of its record is lent, so that it is held meanwhile.
 fn serve_one<'a, S: System, G: Games<S> + Drop>(
-    alloc: Global,
     task: &Listen<'_>,
     served: OneServed<'a, G>,
+    _held: &S::Lock,
     port: &mut S::Port,
     system: &S,
     timeline: &mut S::Timeline,
 ) -> Result<u8, WriteFault>
+    requires { (S.outside system.now).lock_path _held.now ≡ kept_lock task.now.kept.now }
     ensures made { RunsIn (S.outside system.now) (G.facts system.now) task.now served.entry port.old timeline.old timeline.new result }
     ensures cause { OnErr result (OutputFails (S.outside system.now)) }
 {
     let OneServed {
+        alloc,
         config,
         tables,
         games,
@@ -130,7 +134,7 @@ fn lock_and_serve<'a, S: System, G: Games<S> + Drop>(
     ensures cause { OnErr result (OutputFails (S.outside system.now)) }
 {
     match lock(alloc, system, timeline, task.kept, BESIDE_KEPT) {
-        Ok(_held) => serve_one(alloc, task, served, port, system, timeline),
+        Ok(held) => serve_one(task, served, &held, port, system, timeline),
         Err(refusal) => print_refusal(system, timeline, refusal),
     }
 }
@@ -208,6 +212,7 @@ fn one_game<'t>(task: &Listen<'t>, start: Position, manifest: &[u8]) -> OneGame<
 
 /// What is served of the game from this start, by these tables.
 fn served_from<'a, 't>(
+    alloc: Global,
     task: &Listen<'t>,
     start: Position,
     tables: Set<'a>,
@@ -216,6 +221,7 @@ fn served_from<'a, 't>(
     ensures { served_one result ≡ served_of task.now start tables.entry manifest.now }
 {
     OneServed {
+        alloc,
         config: ServerConfig {
             manifest,
             me: task.me,
@@ -248,7 +254,7 @@ fn listen_from<S: System>(
         Ok(manifest) => manifest,
         Err(refusal) => return print_refusal(system, timeline, refusal),
     };
-    let served = served_from(task, start, tables, &manifest);
+    let served = served_from(alloc, task, start, tables, &manifest);
     bind_and_serve(alloc, task, served, system, timeline)
 }
 

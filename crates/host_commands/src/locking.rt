@@ -45,7 +45,8 @@ fn lock_at<S: System>(
     timeline: &mut S::Timeline,
     path: &str,
 ) -> Result<S::Lock, Refusal>
-    ensures { AddsSome (S.outside system.now) timeline.old timeline.new (LocksFile (S.outside system.now) path.now (in_words result)) }
+    ensures made { AddsSome (S.outside system.now) timeline.old timeline.new (LocksFile (S.outside system.now) path.now (in_words result)) }
+    ensures at { IfOk result (λ held. (S.outside system.now).lock_path held ≡ path.now) }
 {
     match system.lock(timeline, alloc, path) {
         Ok(lock) => Ok(lock),
@@ -67,7 +68,8 @@ pub(crate) fn lock<S: System>(
     path: &str,
     end: &str,
 ) -> Result<S::Lock, Refusal>
-    ensures { AddsSome (S.outside system.now) timeline.old timeline.new (LocksFile (S.outside system.now) (path.now ++ end.now) (in_words result)) }
+    ensures made { AddsSome (S.outside system.now) timeline.old timeline.new (LocksFile (S.outside system.now) (path.now ++ end.now) (in_words result)) }
+    ensures at { IfOk result (λ held. (S.outside system.now).lock_path held ≡ path.now ++ end.now) }
 {
     match lock_path(alloc, path, end) {
         Ok(name) => lock_at(alloc, system, timeline, name.as_str()),

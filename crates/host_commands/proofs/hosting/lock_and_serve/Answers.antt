@@ -10,10 +10,10 @@ pub returns-in-Ok-clause-made : goal.returns-in-Ok-clause-made
 returns-in-Ok-clause-made g c =
     let o = g.S.System.outside c.args.system.now in
     let h = c.args.plan.now.task.now in
-    goes_on o h _ _ _ (LocksFile o (games_lock h.games.now)) (λ held. RunsKept o h h.store (common_held c.args.common) c.args.plan.now.read) c.in-Ok._held c.keep_and_serve.result (lock_quiet o (games_lock h.games.now)) c.in-Ok.ensures c.keep_and_serve.ensures.made
+    goes_on o h _ _ _ (LocksFile o (games_lock h.games.now)) (λ held. RunsKept o h h.store (common_held c.args.common) c.args.plan.now.read) c.in-Ok.held c.keep_and_serve.result (lock_quiet o (games_lock h.games.now)) c.in-Ok.ensures.made c.keep_and_serve.ensures.made
 
 pub returns-in-Err-clause-made : goal.returns-in-Err-clause-made
 returns-in-Err-clause-made g c =
     let o = g.S.System.outside c.args.system.now in
     let h = c.args.plan.now.task.now in
-    is_refused o h _ _ _ (LocksFile o (games_lock h.games.now)) (λ held. RunsKept o h h.store (common_held c.args.common) c.args.plan.now.read) (refusal_words c.in-Err.refusal) c.print_refusal.result (lock_quiet o (games_lock h.games.now)) c.in-Err.ensures c.print_refusal.ensures.made
+    is_refused o h _ _ _ (LocksFile o (games_lock h.games.now)) (λ held. RunsKept o h h.store (common_held c.args.common) c.args.plan.now.read) (refusal_words c.in-Err.refusal) c.print_refusal.result (lock_quiet o (games_lock h.games.now)) c.in-Err.ensures.made c.print_refusal.ensures.made

@@ -8,9 +8,9 @@ use Rattle.host_commands.proofs.listening.lock_and_serve.Goals as goal
 pub returns-in-Ok-clause-made : goal.returns-in-Ok-clause-made
 returns-in-Ok-clause-made g c =
     let o = g.S.System.outside c.args.system.now in
-    goes_on o _ _ _ (LocksFile o (kept_lock c.args.task.now.kept.now)) (λ held. RunsOne o (g.G.Games.facts c.args.system.now) c.args.task.now (served_one c.args.served) c.args.port.now) c.in-Ok._held c.serve_one.result c.in-Ok.ensures c.serve_one.ensures.made
+    goes_on o _ _ _ (LocksFile o (kept_lock c.args.task.now.kept.now)) (λ held. RunsOne o (g.G.Games.facts c.args.system.now) c.args.task.now (served_one c.args.served) c.args.port.now) c.in-Ok.held c.serve_one.result c.in-Ok.ensures.made c.serve_one.ensures.made
 
 pub returns-in-Err-clause-made : goal.returns-in-Err-clause-made
 returns-in-Err-clause-made g c =
     let o = g.S.System.outside c.args.system.now in
-    is_refused o _ _ _ (LocksFile o (kept_lock c.args.task.now.kept.now)) (λ held. RunsOne o (g.G.Games.facts c.args.system.now) c.args.task.now (served_one c.args.served) c.args.port.now) (refusal_words c.in-Err.refusal) c.print_refusal.result c.in-Err.ensures c.print_refusal.ensures.made
+    is_refused o _ _ _ (LocksFile o (kept_lock c.args.task.now.kept.now)) (λ held. RunsOne o (g.G.Games.facts c.args.system.now) c.args.task.now (served_one c.args.served) c.args.port.now) (refusal_words c.in-Err.refusal) c.print_refusal.result c.in-Err.ensures.made c.print_refusal.ensures.made
