@@ -146,7 +146,9 @@ fn waits_no_longer_than_it_should(rt: HostRuntime) {
 }
 
 /// How long the tests below wait.
-const WAIT: Duration = Duration::from_millis(40);
+fn some_time() -> Duration {
+    Duration::from_millis(40)
+}
 
 /// The time.
 fn now<R: Clock + Abort>(rt: &R) -> Instant {
@@ -155,7 +157,7 @@ fn now<R: Clock + Abort>(rt: &R) -> Instant {
 
 /// That a wait has passed, as precisely as the system counts it.
 fn check_waited<R: Clock + Abort>(rt: &R, began: Instant, row: &str) {
-    let waited = now(rt).duration_since(began).saturating_mul(2) >= WAIT;
+    let waited = now(rt).duration_since(began).saturating_mul(2) >= some_time();
     check_same(rt, waited, true, row);
 }
 
@@ -164,7 +166,7 @@ fn check_waited<R: Clock + Abort>(rt: &R, began: Instant, row: &str) {
 fn waits_as_long_as_it_should(rt: HostRuntime) {
     let mut port = port_to(&rt, &[]);
     let began = now(&rt);
-    let _nothing = port.receive_in_time(WAIT, &mut [0; 64]);
+    let _nothing = port.receive_in_time(some_time(), &mut [0; 64]);
     check_waited(&rt, began, "a wait");
 }
 
@@ -184,10 +186,10 @@ fn sets_how_long_its_socket_waits(rt: HostRuntime) {
     let client = bound(&rt);
     let mut port = port_to(&rt, &[]);
     send_from(&rt, &client, &port);
-    let got = port.receive_in_time(WAIT, &mut [0; 64]);
+    let got = port.receive_in_time(some_time(), &mut [0; 64]);
     check_same(&rt, matches!(got, Ok(Some(1))), true, "a datagram");
     let wait = port.socket().read_timeout().expect(&rt, "a socket");
-    let is_set = matches!(wait, Some(wait) if wait <= WAIT.saturating_mul(2));
+    let is_set = matches!(wait, Some(wait) if wait <= some_time().saturating_mul(2));
     check_same(&rt, is_set, true, "how long its socket waits");
 }
 
@@ -200,7 +202,7 @@ fn a_send_waits_for_room(rt: HostRuntime) {
     let got = port.receive_in_time(Duration::ZERO, &mut [0; 64]);
     check_same(&rt, matches!(got, Ok(None)), true, "nothing");
     check_same(&rt, port.send(b"x").is_ok(), true, "a send");
-    port.socket().set_read_timeout(Some(WAIT)).expect(&rt, "a socket");
+    port.socket().set_read_timeout(Some(some_time())).expect(&rt, "a socket");
     let began = now(&rt);
     let _nothing = port.socket().recv_from(&mut [0; 64]).is_ok();
     check_waited(&rt, began, "its socket blocks");
