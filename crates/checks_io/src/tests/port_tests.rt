@@ -202,7 +202,9 @@ fn a_send_waits_for_room(rt: HostRuntime) {
     let got = port.receive_in_time(Duration::ZERO, &mut [0; 64]);
     check_same(&rt, matches!(got, Ok(None)), true, "nothing");
     check_same(&rt, port.send(b"x").is_ok(), true, "a send");
-    port.socket().set_read_timeout(Some(some_time())).expect(&rt, "a socket");
+    port.socket()
+        .set_read_timeout(Some(some_time()))
+        .expect(&rt, "a socket");
     let began = now(&rt);
     let _nothing = port.socket().recv_from(&mut [0; 64]).is_ok();
     check_waited(&rt, began, "its socket blocks");
