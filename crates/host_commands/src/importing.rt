@@ -1,6 +1,6 @@
 //! Records that go over from their files into the store of their folder.
 
-ghost use Rattle.std.specs.Prelude.{◌≡◌, ◌++◌, ◌∷◌, [], map, string_bytes, IfOk, OnOk};
+ghost use Rattle.std.specs.Prelude.{◌≡◌, ◌++◌, ◌∷◌, [], map, string_bytes, IfOk, IsErrOf, OnOk};
 ghost use Rattle.host_commands.specs.Imports.{AreListed};
 ghost use Rattle.host_commands.specs.Inside.Importing.{AddsSeen, ImportsIn, ListsKept, LooksAtThese, PutsIn};
 ghost use Rattle.system_io.specs.Records.{IsSettled};
@@ -107,6 +107,7 @@ fn put_coming<S: System>(
 ) -> Result<(), Refusal>
     requires settled { IsSettled ((S.outside system.now).store store.old) }
     ensures made { PutsIn (S.outside system.now) store.old store.new entries.items timeline.old timeline.new result }
+    ensures memory { IsErrOf result Refusal.Memory → IsSettled ((S.outside system.now).store store.new) }
     ensures settled { OnOk result (IsSettled ((S.outside system.now).store store.new)) }
 {
     if entries.is_empty() {

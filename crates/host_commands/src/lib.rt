@@ -32,8 +32,10 @@
 //!   (`folder_games_facts`, `one_game_facts`, `store_games_facts` of game_folder).
 //! - CLAIM: `listen`, `host_games`, clauses `cause`: an error comes only where a write might be refused, or what was written couldn't go out.
 //!
-//! Not said: that a line is noted where memory for it isn't refused, but that a lost log is; why memory was refused; how long a lock is held;
-//! that the file of a record which goes over was read up to 8217 bytes alone; whether memory or the store failed an import.
+//! An import which memory was refused for leaves the store as it was (a private clause).
+//!
+//! Not said: that a line is noted where memory for it isn't refused, but that a lost log is; why memory was refused; how long a lock is held; whether it was memory
+//! for which the store refused an import.
 #![tactic(auto)]
 
 mod arriving;

@@ -120,6 +120,28 @@ fn keeps_a_file_of_the_system(rt: HostRuntime) {
     remove_folder(&rt, FOLDER);
 }
 
+/// The folder of a test, its kept file and the one beside it.
+const SHARED: &str = "/tmp/checks-test-shared";
+
+const SHARED_KEPT: &str = "/tmp/checks-test-shared/kept";
+
+const SHARED_BESIDE: &str = "/tmp/checks-test-shared/kept.new";
+
+/// What another process writes beside, and has locked, stays there: a put takes another name.
+#[test]
+fn leaves_what_another_process_writes(rt: HostRuntime) {
+    make_folder(&rt, SHARED);
+    let file = fs::create(&rt, SHARED_BESIDE).expect(&rt, "a file");
+    check_same(&rt, file.try_lock().is_ok(), true, "a lock");
+    let mut keeper = keeper_at(&rt, SHARED_KEPT).ok().expect(&rt, "a keeper");
+    check_same(&rt, put_into(&mut keeper, b"mine"), Ok(()), "a put");
+    let stands = fs::exists(&rt, SHARED_BESIDE).expect(&rt, "a folder");
+    check_same(&rt, stands, true, SHARED_BESIDE);
+    let kept = fs::read(&rt, SHARED_KEPT).expect(&rt, "a file");
+    check_same(&rt, kept.as_slice(), b"mine".as_slice(), SHARED_KEPT);
+    remove_folder(&rt, SHARED);
+}
+
 /// The folder of the other test.
 const OTHER: &str = "/tmp/checks-test-unkept";
 

@@ -9,7 +9,7 @@ use std::io::{Sink, sink};
 use std::net::{IpAddr, Ipv4Addr, Ipv6Addr, Net, SocketAddr, UdpSocket};
 use std::process::Abort;
 use std::rt::Files;
-use std::time::{Clock, Duration};
+use std::time::{Clock, Duration, Instant};
 use system_fakes::{Arrival, MadeSocketCall, MemoryPort, MemorySocket, Passage, Turn};
 use system_io::{BindFault, Host, LockFault, Port, Recipient, SystemHost, UdpPort, Unrecorded};
 
@@ -143,6 +143,81 @@ fn waits_no_longer_than_it_should(rt: HostRuntime) {
     let mut port = port_to(&rt, &[]);
     check_same(&rt, is_quiet(&mut port), true, "nothing");
     check_same(&rt, port.failures(), 0, "failures");
+}
+
+/// How long the tests below wait.
+fn some_time() -> Duration {
+    Duration::from_millis(40)
+}
+
+/// The time.
+fn now<R: Clock + Abort>(rt: &R) -> Instant {
+    Instant::now(rt).expect(rt, "a clock")
+}
+
+/// That a wait has passed, as precisely as the system counts it.
+fn check_waited<R: Clock + Abort>(rt: &R, began: Instant, row: &str) {
+    let waited = now(rt).duration_since(began).saturating_mul(2) >= some_time();
+    check_same(rt, waited, true, row);
+}
+
+/// A silence comes when the wait is over, and no sooner.
+#[test]
+fn waits_as_long_as_it_should(rt: HostRuntime) {
+    let mut port = port_to(&rt, &[]);
+    let began = now(&rt);
+    let _nothing = port.receive_in_time(some_time(), &mut [0; 64]);
+    check_waited(&rt, began, "a wait");
+}
+
+/// Sends a datagram to a port.
+fn send_from<R: Net + Clock + AllocGlobal + Abort>(
+    rt: &R,
+    socket: &UdpSocket,
+    port: &UdpPort<'_, R, UdpSocket, Sink>,
+) {
+    let own = port.own_address().expect(rt, "an address");
+    socket.send_to(b"x", own).expect(rt, "a send");
+}
+
+/// A receive sets how long its socket waits, also where a datagram has come already.
+#[test]
+fn sets_how_long_its_socket_waits(rt: HostRuntime) {
+    let client = bound(&rt);
+    let mut port = port_to(&rt, &[]);
+    send_from(&rt, &client, &port);
+    let got = port.receive_in_time(some_time(), &mut [0; 64]);
+    check_same(&rt, matches!(got, Ok(Some(1))), true, "a datagram");
+    let wait = port.socket().read_timeout().expect(&rt, "a socket");
+    let is_set = matches!(wait, Some(wait) if wait <= some_time().saturating_mul(2));
+    check_same(&rt, is_set, true, "how long its socket waits");
+}
+
+/// After a receive that waits for nothing a send waits for room: its socket blocks again.
+#[test]
+fn a_send_waits_for_room(rt: HostRuntime) {
+    let client = bound(&rt);
+    let to = text_at(&rt, rt.alloc(), &client);
+    let mut port = port_to(&rt, &[to.as_str()]);
+    let got = port.receive_in_time(Duration::ZERO, &mut [0; 64]);
+    check_same(&rt, matches!(got, Ok(None)), true, "nothing");
+    check_same(&rt, port.send(b"x").is_ok(), true, "a send");
+    port.socket()
+        .set_read_timeout(Some(some_time()))
+        .expect(&rt, "a socket");
+    let began = now(&rt);
+    let _nothing = port.socket().recv_from(&mut [0; 64]).is_ok();
+    check_waited(&rt, began, "its socket blocks");
+}
+
+/// A port listens where it was bound, and nowhere else.
+#[test]
+fn binds_where_it_is_told(rt: HostRuntime) {
+    let free = text_at(&rt, rt.alloc(), &bound(&rt));
+    let port = UdpPort::bind(&rt, rt.alloc(), sink(), free.as_str(), &[]).expect(&rt, "a port");
+    let own = port.own_address().expect(&rt, "an address");
+    let text = format!(in rt.alloc(); "{own}").expect(&rt, "memory");
+    check_same(&rt, text.as_str(), free.as_str(), "where it listens");
 }
 
 /// An address of the loopback, by its port.
