@@ -1,11 +1,11 @@
 -- What a game of a folder told whose record is in a store, over all runs of the folder's server, as `host --store` has them, and wherever each of
 -- them stopped (this project's own).
-use Rattle.std.specs.Prelude.{◌≡◌, ◌≤◌, ℕ, List, [], ◌∷◌, Option, length}
+use Rattle.std.specs.Prelude.{◌≡◌, ℕ, List, [], ◌∷◌, Option}
 use Rattle.std.specs.List.{AllByRecursion}
 use Rattle.arbiter_core.specs.Setups.{SetupView}
 use Rattle.arbiter_server.specs.GameFiles.{SpellsGame, game_as_told}
-use Rattle.arbiter_server.specs.GameFolders.{game_path, most_game_bytes}
-use Rattle.arbiter_server.specs.Games.{CommonView, IsGameOf, setup_of}
+use Rattle.arbiter_server.specs.GameFolders.{game_path}
+use Rattle.arbiter_server.specs.Games.{CommonView, setup_of}
 use Rattle.arbiter_server.specs.declared.games.GameConfig.{GameConfig}
 use Rattle.timeline.specs.Events.{Event, RecordSought}
 use Rattle.timeline.specs.Outsides.{Outside}
@@ -51,18 +51,17 @@ first_sought path stamp there = RecordSought path stamp there ∷ []
 abbrev OfStoredRuns : {T P F K S L : Type 0} (o : Outside T P F K S L) → (List (ServedRun (StoredGames S) F) → StoredPlace → List ℕ → SetupView → Option (List ℕ) → Option (List ℕ) → Type 0) → Type 0
 OfStoredRuns {F} {S = S} o Holds =
     (t : CommonView) (game : GameConfig) (text folder path stamp : List ℕ) (there found : Option (List ℕ)) (runs : List (ServedRun (StoredGames S) F))
-    → IsGameOf t.manifest stamp game.name.items game.start game.delay
-    → SpellsGame text (game_as_told game.name.items game.start game.delay) → length text ≤ most_game_bytes → o.disk.holds (game_path folder stamp) text
+    → SpellsGame text (game_as_told game.name.items game.start game.delay)
     → AllByRecursion (IsRunOfStore o t text folder path stamp) runs
     → IsDurable (InStore path) stamp (RecordSought path stamp there ∷ events_of_all runs)
     → MayFind (InStore path) stamp (behind (first_sought path stamp there) (events_of_all runs)) found
     → Holds runs (stored_place folder path) stamp (setup_of t game.name.items game.start game.delay) there found
 
--- THE LAW: What a game of a folder told over a store stays. Let its file have the game's text, by which the game has its stamp by the tables of the
--- folder's servers; let any record of it or none be in the store at first; and let there be any runs of new servers of the folder over the store,
--- each with datagrams of any games, and wherever each of them stopped, be it in a commit. Premise (who else writes the store; the disk): the
--- store is durable, each start finds what may be found behind all that happened before. Then whatever a start may find behind all of them is a
--- record in which all is that each answer told that went out: as many moves as were acknowledged, the same ones, and the verdict at its ply.
+-- THE LAW: What a game of a folder told over a store stays. Let its file have the game's text whenever it is read; let any record of it or none be
+-- in the store at first; and let there be any runs of new servers of the folder over the store, each with datagrams of any games, and wherever each
+-- of them stopped, be it in a commit. Premise (who else writes the store; the disk): the store is durable, each look finds what may be found behind
+-- all that happened before. Then whatever a start may find behind all of them is a record in which all is that each answer told that went out: as
+-- many moves as were acknowledged, the same ones, and the verdict at its ply.
 abbrev pub StoreGamesKeepWhatTheyTold : {T P F K S L : Type 0} → Outside T P F K S L → Type 0
 StoreGamesKeepWhatTheyTold o = OfStoredRuns o (λ runs place stamp setup there found. AllByRecursion (IsKeptOf o place stamp setup found) runs)
 

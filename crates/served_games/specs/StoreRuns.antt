@@ -43,20 +43,20 @@ pub data Front {G F : Type 0} (path : List ℕ) (r : ServedRun G F) : Type 0 whe
   AllHeard : (early late : List Event) (records : List (List ℕ × StoredRecord)) → r.tail ≡ early ++ Committed path records false ∷ late → Front path r
 
 module _ {G F : Type 0} (path stamp : List ℕ) (r : ServedRun G F) where
-  abbrev pub unasked_in : Front path r → List Heard
-  unasked_in (NoTurns none) = []
-  unasked_in (FirstTurns first later are none) = r.unasked
-  unasked_in (AllHeard early late records cut) = r.unasked
+  abbrev pub unasked_of : Front path r → List Heard
+  unasked_of (NoTurns none) = []
+  unasked_of (FirstTurns first later are none) = r.unasked
+  unasked_of (AllHeard early late records cut) = r.unasked
 
-  abbrev pub begun_in : Front path r → Option (Moment DraftView)
-  begun_in (NoTurns none) = None
-  begun_in (FirstTurns first later are none) = game_at r.begun stamp
-  begun_in (AllHeard early late records cut) = game_at r.begun stamp
+  abbrev pub begun_of : Front path r → Option (Moment DraftView)
+  begun_of (NoTurns none) = None
+  begun_of (FirstTurns first later are none) = game_at r.begun stamp
+  begun_of (AllHeard early late records cut) = game_at r.begun stamp
 
-  abbrev pub heard_in : Front path r → List Heard
-  heard_in (NoTurns none) = []
-  heard_in (FirstTurns first later are none) = heard_in_turns first
-  heard_in (AllHeard early late records cut) = heard_in_run r
+  abbrev pub heard_of : Front path r → List Heard
+  heard_of (NoTurns none) = []
+  heard_of (FirstTurns first later are none) = heard_in_turns first
+  heard_of (AllHeard early late records cut) = heard_in_run r
 
 -- ---- a run
 
@@ -104,7 +104,7 @@ module _ {T P F K S L : Type 0} (o : Outside T P F K S L) (place : StoredPlace) 
   -- the game's acts in what counts of a run
   abbrev pub GameIn : (r : ServedRun (StoredGames S) F) → Front place.store_path r → Type 0
   GameIn r front =
-      OpenedGame (store_games_facts o) place (common r.old) stamp (unasked_in place.store_path stamp r front) (begun_in place.store_path stamp r front) (heard_in place.store_path stamp r front)
+      OpenedGame (store_games_facts o) place (common r.old) stamp (unasked_of place.store_path stamp r front) (begun_of place.store_path stamp r front) (heard_of place.store_path stamp r front)
 
   -- all that the answers told that count is in what is found
   pub record IsKeptOf (found : Option (List ℕ)) (r : ServedRun (StoredGames S) F) : Type 0 where
