@@ -31,7 +31,7 @@ use Rattle.served_games.proofs.Lasting.{each_lasts}
 
 -- ---- acts
 
-over_fresh : (before : PlaceKeeper) (acts : Acts) → AreOverLeft (Shut before) acts → AreOverLeft Fresh acts
+pub over_fresh : (before : PlaceKeeper) (acts : Acts) → AreOverLeft (Shut before) acts → AreOverLeft Fresh acts
 over_fresh before [] h = tt
 over_fresh before (Unread datagram fault ∷ acts) h = (tt, over_fresh before acts h.1)
 over_fresh before (Strange of datagram tried why ∷ acts) h = (tt, over_fresh before acts h.1)
@@ -59,7 +59,7 @@ module _ (Q : Event → Type 0) (stamp : List ℕ) where
   for_one h true q = q
   for_one h false q = tt
 
-  for_made : (hs : List Heard) → AllByRecursion Q (flat_map made_of hs) → AllByRecursion Q (flat_map (made_for stamp) hs)
+  pub for_made : (hs : List Heard) → AllByRecursion Q (flat_map made_of hs) → AllByRecursion Q (flat_map (made_for stamp) hs)
   for_made [] q = tt
   for_made (h ∷ hs) q =
       all_both Q (made_for stamp h) (flat_map (made_for stamp) hs) (for_one h (is_for stamp h) (all_first Q h.events (flat_map made_of hs) q)) (for_made hs (all_rest Q h.events (flat_map made_of hs) q))
@@ -77,14 +77,14 @@ module _ (Q : Event → Type 0) (stamp : List ℕ) where
       for_heard r.heard (all_first Q came ends (all_first Q (came ++ ends) (r.commits ++ round_sent to r.heard r.committed) q))
   for_deed to HearsNone q = tt
 
-  for_turns : (to : List Recipient) (turns : List Turn) → AllByRecursion Q (run_events to turns) → AllByRecursion Q (flat_map (made_for stamp) (heard_in_turns turns))
+  pub for_turns : (to : List Recipient) (turns : List Turn) → AllByRecursion Q (run_events to turns) → AllByRecursion Q (flat_map (made_for stamp) (heard_in_turns turns))
   for_turns to [] q = tt
   for_turns to (turn ∷ turns) q =
       let one = all_first Q (deed_events to turn.deed) turn.lines (all_first Q (turn_events to turn) (run_events to turns) q) in
       subst (AllByRecursion Q) (sym (flat_map-append (made_for stamp) (heard_by turn.deed) (heard_in_turns turns)))
       (all_both Q (flat_map (made_for stamp) (heard_by turn.deed)) (flat_map (made_for stamp) (heard_in_turns turns)) (for_deed to turn.deed one) (for_turns to turns (all_rest Q (turn_events to turn) (run_events to turns) q)))
 
-  for_run : {G F : Type 0} (r : ServedRun G F) → AllByRecursion Q (turned_of r) → AllByRecursion Q (flat_map (made_for stamp) (heard_in_run r))
+  pub for_run : {G F : Type 0} (r : ServedRun G F) → AllByRecursion Q (turned_of r) → AllByRecursion Q (flat_map (made_for stamp) (heard_in_run r))
   for_run r q =
       let all = run_events r.to r.turns in
       let rest = flat_map heard_events r.heard in
@@ -107,7 +107,7 @@ module _ {G : Type 0} (facts : GamesFacts G) (place : facts.Place) (t : CommonVi
   act_one old new made (Answers of e) events h m q = tt
   act_one old new made (Closes of left) events h m q = tt
 
-  all_one : (old new made : Life) (acts : Acts) (events : List Event) → Goes (place_keepers facts place) t stamp old acts new → MakesAll facts place stamp made acts events → AllByRecursion Q events → AllByRecursion (IsOfOne setup) acts
+  pub all_one : (old new made : Life) (acts : Acts) (events : List Event) → Goes (place_keepers facts place) t stamp old acts new → MakesAll facts place stamp made acts events → AllByRecursion Q events → AllByRecursion (IsOfOne setup) acts
   all_one old new made [] events h m q = tt
   all_one old new made (act ∷ acts) events h m q =
       let both : AllByRecursion Q (m.0 ++ m.1) = subst (AllByRecursion Q) m.2 q in

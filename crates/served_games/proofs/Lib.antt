@@ -18,3 +18,8 @@ pub mod FolderRuns
 pub mod FileHistories
 pub mod InOrder
 pub mod Taking
+pub mod Choosing
+pub mod Noting
+pub mod Fronts
+pub mod StoreRuns
+pub mod FolderStores

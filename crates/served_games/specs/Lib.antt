@@ -7,3 +7,5 @@ pub mod OneGames
 pub mod FolderRuns
 pub mod FileHistories
 pub mod InOrder
+pub mod StoreRuns
+pub mod FolderStores
