@@ -127,18 +127,18 @@ module _ {T P F K S L G : Type 0} (o : Outside T P F K S L) (facts : GamesFacts 
   abbrev at : KeptAt
   at = facts.places place stamp
 
-  abbrev GameIn : ServedRun G F → Type 0
+  abbrev pub GameIn : ServedRun G F → Type 0
   GameIn r = OpenedGame facts place (common r.old) stamp r.unasked (game_at r.begun stamp) (heard_in_run r)
 
   abbrev Happened : ServedRun G F → Event → Type 0
   Happened r = Contains (work_of r)
 
   -- what one run does, and leaves
-  record RunDone (before : PlaceKeeper) (past : List Event) (r : ServedRun G F) : Type 0 where
-    game : GameIn r
-    over : AreOverLeft Fresh (acts_in game)
-    ran : RanOver facts place stamp setup before (record { acts = acts_in game; left = left_by before game.life })
-    found : (found : Option (List ℕ)) → MayFind at stamp (behind past (events_of r)) found → Follows (left_by before game.life) (found_keeper found)
+  pub record RunDone (before : PlaceKeeper) (past : List Event) (r : ServedRun G F) : Type 0 where
+    pub game : GameIn r
+    pub over : AreOverLeft Fresh (acts_in game)
+    pub ran : RanOver facts place stamp setup before (record { acts = acts_in game; left = left_by before game.life })
+    pub found : (found : Option (List ℕ)) → MayFind at stamp (behind past (events_of r)) found → Follows (left_by before game.life) (found_keeper found)
 
   events_join : (past : List Event) (r : ServedRun G F) → behind past (events_of r) ≡ behind (behind (behind past r.first) (work_of r)) r.tail
   events_join past r = behind_join past r.first (work_of r ++ r.tail) ∙ behind_join (behind past r.first) (work_of r) r.tail
@@ -147,7 +147,7 @@ module _ {T P F K S L G : Type 0} (o : Outside T P F K S L) (facts : GamesFacts 
   abbrev DoneAt : PlaceKeeper → List Event → ServedRun G F → facts.Place → Type 0
   DoneAt before past r x = (game : OpenedGame facts x (common r.old) stamp r.unasked (game_at r.begun stamp) (heard_in_run r)) × AreOverLeft (Shut before) (acts_in game) × IsFoundIn (facts.places x stamp) stamp past before game.life
 
-  run_done : (before : PlaceKeeper) (past : List Event) (r : ServedRun G F) → IsServedRun o facts place stamp setup past r → IsDurableAfter at stamp past (events_of r) → ((found : Option (List ℕ)) → MayFind at stamp past found → Follows before (found_keeper found)) → RunDone before past r
+  pub run_done : (before : PlaceKeeper) (past : List Event) (r : ServedRun G F) → IsServedRun o facts place stamp setup past r → IsDurableAfter at stamp past (events_of r) → ((found : Option (List ℕ)) → MayFind at stamp past found → Follows before (found_keeper found)) → RunDone before past r
   run_done before past r is durable found = by f
     where
       a : List Event

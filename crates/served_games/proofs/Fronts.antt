@@ -120,11 +120,8 @@ module _ {T P F K S L G : Type 0} (o : Outside T P F K S L) (facts : GamesFacts 
       committed : MayFind at stamp (behind a r.commits) found
       committed = asides at stamp (behind a r.commits) sends (round_aside to r.heard r.committed) found (subst (λ (l : List Event). MayFind at stamp l found) joined m)
 
-      abbrev At : facts.Place → List Event → Type 0
-      At x l = MayFind (facts.places x stamp) stamp l found
-
-      at_mid : At (facts.place is.mid.shared.games) (behind a r.commits)
-      at_mid = subst (λ (x : facts.Place). At x (behind a r.commits)) (sym there.there) committed
+      at_mid : MayFind (facts.places (facts.place is.mid.shared.games) stamp) stamp (behind a r.commits) found
+      at_mid = subst (λ (x : facts.Place). MayFind (facts.places x stamp) stamp (behind a r.commits) found) (sym there.there) committed
 
       -- before what was heard
       earlier : MayFind at stamp a found → MayFind at stamp past found
@@ -132,9 +129,9 @@ module _ {T P F K S L G : Type 0} (o : Outside T P F K S L) (facts : GamesFacts 
           heard_stays old is.mid r.heard past is.heard (durable_first at stamp past heard ends first) found
           (asides at stamp (behind past heard) ends (end_aside r.end) found (subst (λ (l : List Event). MayFind at stamp l found) (behind_join past heard ends) x))
 
-      broken : (why : Uncommitted) → r.committed ≡ Err why → (IsFit is.mid.shared.games × May is.mid.shared.games stamp a found) ⊎ At (facts.place is.mid.shared.games) a → DeedCounts life (AnswersRound r) past found
+      broken : (why : Uncommitted) → r.committed ≡ Err why → (IsFit is.mid.shared.games × May is.mid.shared.games stamp a found) ⊎ MayFind (facts.places (facts.place is.mid.shared.games) stamp) stamp a found → DeedCounts life (AnswersRound r) past found
       broken why e (inl x) = inr (taken_leaves life r.heard is.mid a taken x.0 found x.1)
-      broken why e (inr x) = inl (earlier (subst (λ (y : facts.Place). At y a) there.there x), λ sent. ok_not_err why (sym e ∙ sent))
+      broken why e (inr x) = inl (earlier (subst (λ (y : facts.Place). MayFind (facts.places y stamp) stamp a found) there.there x), λ sent. ok_not_err why (sym e ∙ sent))
 
       by : (told : Result (Unit {0}) Uncommitted) → r.committed ≡ told → DeedCounts life (AnswersRound r) past found
       by (Ok x) e =

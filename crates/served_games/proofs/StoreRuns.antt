@@ -89,31 +89,31 @@ module _ {T P F K S L : Type 0} (o : Outside T P F K S L) (place : StoredPlace) 
 
     -- ---- what happened, part by part
 
-    opened : List Event
+    abbrev opened : List Event
     opened = flat_map made_of r.unasked
 
-    turned : List Event
+    abbrev turned : List Event
     turned = run_events r.to r.turns
 
-    late : List Event
+    abbrev late : List Event
     late = flat_map heard_events r.heard
 
-    p0 : List Event
+    abbrev p0 : List Event
     p0 = RecordSought path stamp was ∷ past
 
-    a : List Event
+    abbrev a : List Event
     a = behind p0 r.first
 
-    b : List Event
+    abbrev b : List Event
     b = behind a opened
 
-    c : List Event
+    abbrev c : List Event
     c = behind b r.asked
 
-    d : List Event
+    abbrev d : List Event
     d = behind c turned
 
-    e : List Event
+    abbrev e : List Event
     e = behind d late
 
     joined_work : behind a (work_of r) ≡ e
@@ -193,7 +193,7 @@ module _ {T P F K S L : Type 0} (o : Outside T P F K S L) (place : StoredPlace) 
 
     -- the game's acts behind those by which it was opened unasked
     module _ (heard : List Heard) (each : List Acts) (to : Life) (plays : PlaysAll (store_games_facts o) place t stamp unasked.played.life heard each to) where
-      its : OpenedGame (store_games_facts o) place t stamp r.unasked (game_at r.begun stamp) heard
+      abbrev its : OpenedGame (store_games_facts o) place t stamp r.unasked (game_at r.begun stamp) heard
       its = record { first = unasked.played.each; mid = unasked.played.life; opens = unasked.played.plays; at = unasked.played.at; each = each; life = to; plays = plays }
 
       its_over : AreOverLeft (Rattle.served_games.specs.Durable.left_before before unasked.played.life) (all_acts each) → AreOverLeft (Shut before) (all_acts unasked.played.each ++ all_acts each)
@@ -228,7 +228,6 @@ module _ {T P F K S L : Type 0} (o : Outside T P F K S L) (place : StoredPlace) 
     }
 
     turns_lead : (found : Option (List ℕ)) → Counts o (store_games_facts o) CanCommit (MayTakeStored o) (store_keeps_in_order o) stamp place t before heard_stays unasked.played.life r.turns found → LeadsTo o place stamp setup was found r
-    unfolding its
     turns_lead found k =
         let over = its_over (heard_in_turns k.first) k.each k.to k.plays k.over in
         record {
@@ -263,10 +262,10 @@ module _ {T P F K S L : Type 0} (o : Outside T P F K S L) (place : StoredPlace) 
     all_heard = on_heard o (store_games_facts o) CanCommit (MayTakeStored o) (store_keeps_in_order o) stamp place t before unasked.played.life (heard_in_turns r.turns) r.heard r.mid r.new d e turned_taken late_taken
 
     module _ (early rest : List Event) (may : MayCommit r.new.shared.games) (none_early : NoneCommitted path stamp early) (none_rest : NoneCommitted path stamp rest) (is : r.tail ≡ early ++ Committed path (map stamped r.new.shared.games.noted) false ∷ rest) where
-      cut : Event
+      abbrev cut : Event
       cut = Committed path (map stamped r.new.shared.games.noted) false
 
-      f : List Event
+      abbrev f : List Event
       f = behind e early
 
       durable_cut : Durable e (early ++ cut ∷ rest)
@@ -288,7 +287,6 @@ module _ {T P F K S L : Type 0} (o : Outside T P F K S L) (place : StoredPlace) 
       all_found = found_on o (store_games_facts o) CanCommit (MayTakeStored o) (store_keeps_in_order o) stamp place t before heard_stays r.new all_heard.played.life e early here_new early_stays all_heard.found
 
       whole_leads : (found : Option (List ℕ)) → MayTakeStored o r.new.shared.games stamp f found → LeadsTo o place stamp setup was found r
-      unfolding its
       whole_leads found m =
           let k = all_heard.played in
           let over = its_over (heard_in_run r) k.each k.life k.plays all_heard.over in
@@ -338,7 +336,7 @@ module _ {T P F K S L : Type 0} (o : Outside T P F K S L) (place : StoredPlace) 
   follow_on before was next (inr put) (inl it) = inr (put.0, put.1, it ∙ put.2)
   follow_on before was next f (inr put) = absurd (let g : ◌≡◌ {A = Option (List ℕ)} None (Some put.0) = put.1 in cc)
 
-  over_follow : (before : PlaceKeeper) (was : Option (List ℕ)) → Follows before (found_keeper was) → (acts : Acts) → AreOverLeft (Shut (found_keeper was)) acts → AreOverLeft (Shut before) acts
+  pub over_follow : (before : PlaceKeeper) (was : Option (List ℕ)) → Follows before (found_keeper was) → (acts : Acts) → AreOverLeft (Shut (found_keeper was)) acts → AreOverLeft (Shut before) acts
   over_follow before was f [] h = tt
   over_follow before was f (Unread datagram fault ∷ acts) h = (tt, over_follow before was f acts h.1)
   over_follow before was f (Strange of datagram tried why ∷ acts) h = (tt, over_follow before was f acts h.1)
@@ -347,7 +345,7 @@ module _ {T P F K S L : Type 0} (o : Outside T P F K S L) (place : StoredPlace) 
   over_follow before was f (Answers of exchange ∷ acts) h = (tt, h.1)
   over_follow before was f (Closes of left ∷ acts) h = (tt, h.1)
 
-  left_follows : (before : PlaceKeeper) (was : Option (List ℕ)) → Follows before (found_keeper was) → (life : Life) (found : Option (List ℕ)) → IsLeftSo (found_keeper was) life found → Follows (left_by before life) (found_keeper found)
+  pub left_follows : (before : PlaceKeeper) (was : Option (List ℕ)) → Follows before (found_keeper was) → (life : Life) (found : Option (List ℕ)) → IsLeftSo (found_keeper was) life found → Follows (left_by before life) (found_keeper found)
   left_follows before was f Fresh found h = follow_on before was (found_keeper found) f h
   left_follows before was f (Shut left) found h = h
   left_follows before was f (Open now) found h = inl h

@@ -12,3 +12,4 @@ pub mod StoreKeeping
 pub mod StoreWeaving
 pub mod Serving
 pub mod ServedWeaving
+pub mod ServedStoring

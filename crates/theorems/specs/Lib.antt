@@ -11,3 +11,4 @@ pub mod StoreHosts
 pub mod StoreWeaves
 pub mod Served
 pub mod ServedWeaves
+pub mod ServedStores
