@@ -12,11 +12,14 @@
 //! draft as one over what is kept), `Opening`, `Going` (acts behind others), `Playing` (one datagram), `Running` (a run), `Telling` and `Lasting`
 //! (what was told, over acts and runs), `Finding` (what may be found behind acts), `Asides` (events that change nothing of it), `Following` (a
 //! run), `Enduring` (all runs); `Stamping` (stamps are bytes, and paths of two differ), `AtOnce` (files), `OneGames`, `FolderRuns`,
-//! `FileHistories`; `Reaching` and `InTurn` (what a datagram makes of the games), `InOrder` (a store), `Taking` (a run over it).
+//! `FileHistories`; `Reaching` and `InTurn` (what a datagram makes of the games), `InOrder` (a store), `Taking` (a run over it); `Choosing` (what was
+//! found before, by what is found later), `Noting` (what commits nothing), `Fronts` (which turns of a run count), `StoreRuns` and `FolderStores`
+//! (all runs over a store).
 //!
 //! Definitions, in reading order: `PlaceKeepers`, `ServedGames` (`GoesOn`, `PlaysAll`, `OpenedGame`), `Lasting` (`WhatWasToldLasts`), `Durable`
 //! (`MayFind`, `IsDurable`, `KeepsAtOnce`, `RunsLast`), `Unasked` (`Begins`), `OneGames` (`OneGameKeepsWhatItTold`), `FolderRuns`
-//! (`FolderGamesKeepWhatTheyTold`), `FileHistories` (`FilesAreDurable`), `InOrder` (`KeepsInOrder`, `GamesAreTaken`, `CommitsAreFound`).
+//! (`FolderGamesKeepWhatTheyTold`), `FileHistories` (`FilesAreDurable`), `InOrder` (`KeepsInOrder`, `GamesAreTaken`, `CommitsAreFound`), `StoreRuns`
+//! (`Front`, `StoreRunsAreTold`, `StoreRunsAreLed`), `FolderStores` (`StoreGamesKeepWhatTheyTold`).
 //!
 //! - CLAIM: `laws::games_are_played`; `laws::played_are_hosted`: in a run each game has its own acts, from where it was to where it is; for each
 //!   datagram of the game they have its reply, and the events that were made for it. They go on from one another as those of a host, where each
@@ -40,9 +43,11 @@
 //!   may find is what the game keeps or left, whether or not that is committed.
 //! - CLAIM: `laws::store_commits_are_found`: behind a round whose commit to a store succeeded, whatever a start may find of a game is what it keeps
 //!   or left.
-//!
-//! Not said: over all runs of a store, that what was told lasts. Behind a commit that was broken off a start finds the whole batch or what was
-//! there before, so which of a run's acts count is known only by what is found later.
+//! - CLAIM: `laws::store_runs_last`; `laws::store_games_keep_what_they_told`, clauses `told` and `led`: after any runs over a store, wherever each of
+//!   them stopped, whatever a start may find of a game is a record in which all is that each answer told that went out. Behind a commit that
+//!   was broken off a start finds the whole batch or what was there before, and only what is found later tells which: so it is what the acts
+//!   of some first turns of each run lead to, among them each turn whose answers went out. The second says so of new servers of a folder,
+//!   where the game's own file has its text whenever it is read, and the store is durable.
 #![tactic(auto)]
 
 pub mod files;

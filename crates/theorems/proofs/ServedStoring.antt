@@ -296,16 +296,16 @@ pub stores_are_woven : {T P F K S L T' P' F' K' S' L' : Type 0} (o : Outside T P
 stores_are_woven o o' game at_a at_b =
     let x = store_happened o game A at_a in
     let y = store_happened o' game B at_b in
-    (x, y, woven (store_games_facts o) (store_games_facts o') at_a.place at_b.place game x.acts y.acts at_a.found at_b.found x.led y.led)
+    (x, (y, woven (store_games_facts o) (store_games_facts o') at_a.place at_b.place game x.acts y.acts at_a.found at_b.found x.led y.led))
 
 pub store_beside_files : {T P F K S L T' P' F' K' S' L' G : Type 0} (o : Outside T P F K S L) (o' : Outside T' P' F' K' S' L') (facts : GamesFacts G) → KeepsAtOnce facts → StoreBesideFiles o o' facts
 store_beside_files o o' facts at_once game = (
   λ at_a at_b.
       let x = store_happened o game A at_a in
       let y = file_happened o' facts at_once game B at_b in
-      (x, y, woven (store_games_facts o) facts at_a.place at_b.place game x.acts y.acts at_a.found at_b.found x.led y.led),
+      (x, (y, woven (store_games_facts o) facts at_a.place at_b.place game x.acts y.acts at_a.found at_b.found x.led y.led)),
   λ at_a at_b.
       let x = file_happened o' facts at_once game A at_a in
       let y = store_happened o game B at_b in
-      (x, y, woven facts (store_games_facts o) at_a.place at_b.place game x.acts y.acts at_a.found at_b.found x.led y.led),
+      (x, (y, woven facts (store_games_facts o) at_a.place at_b.place game x.acts y.acts at_a.found at_b.found x.led y.led)),
 )

@@ -188,7 +188,7 @@ module _ {G : Type 0} (facts : GamesFacts G) (place : facts.Place) (t : CommonVi
   answers_over : (before : PlaceKeeper) (old new : Life) (e : Exchange PlaceKeeper) (acts : Acts) → AnswersTo Ks old e new → AreOverLeft (life_at e.after) acts → AreOverLeft (left_before before new) acts
   answers_over before Fresh new e acts h over = absurd h
   answers_over before (Shut left) new e acts h over = absurd h
-  answers_over before (Open at) new e acts h over = subst (λ (l : Life). AreOverLeft (left_before before l) acts) (sym h.1) (subst (λ (l : Life). AreOverLeft l acts) (sym (left_act before (Open at) (Answers game.stamp e))) over)
+  answers_over before (Open at) new e acts h over = subst (λ (l : Life). AreOverLeft (left_before before l) acts) (sym h.1) (subst (λ (l : Life). AreOverLeft l acts) (left_act before (Open at) (Answers game.stamp e)) over)
 
   -- the openings among acts are over what was left, without the answers too
   over_unanswered : (before : PlaceKeeper) (old new : Life) (acts : Acts) → IsUp old → Goes Ks t game.stamp old acts new → AllByRecursion OnRequest acts → AreOverLeft (left_before before old) acts → AreOverLeft (left_before before old) (unanswered acts)

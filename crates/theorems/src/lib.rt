@@ -12,14 +12,14 @@
 //! of a stopped run go on as those of one that returns (`goes` of `IsRunOfHost`); that a closing, an act of another game and a datagram
 //! without a keeper leave what is found (`GivesOwn`, `GivesIf`).
 //!
-//! Inside: `arbiters`, `hosts`, `listens`, `served`, `host_files`, `store_hosts`, `after_stops`, `sources`, `seals`; `recording` has a host that
-//! records what is made at it (`Recording`): so the clauses of `Host` on histories are those of one. In `proofs/`: `Netting`
+//! Inside: `arbiters`, `hosts`, `listens`, `served`, `served_stores`, `host_files`, `store_hosts`, `after_stops`, `sources`, `seals`; `recording` has a
+//! host that records what is made at it (`Recording`): so the clauses of `Host` on histories are those of one. In `proofs/`: `Netting`
 //! (arbiters), `Seeing` (keepers of any type, seen as what they keep), `Weaving` (an act of a host as steps of an arbiter),
 //! `Stopping`, `Joining`, `Acking`, `Filing` and `FileWeaving` (hosts over files), `Storing`, `StoreKeeping` and `StoreWeaving`
-//! (hosts over stores), `Listening`, `Serving` and `ServedWeaving` (servers of games over one timeline).
+//! (hosts over stores), `Listening`, `Serving` and `ServedWeaving` (servers of games over one timeline), `ServedStoring` (those over stores).
 //!
-//! Definitions, in reading order: `Nets`, `Interleavings`, `Listens`, `Served`, `ServedWeaves`, `HostFiles`, `AfterStops`, `FileWeaves`, `StoreHosts`,
-//! `StoreWeaves`, `Sources`, `Seals`, `Recording`. A law has no case of its own; `stopping_tests` of `checks_games` runs `run_after`,
+//! Definitions, in reading order: `Nets`, `Interleavings`, `Listens`, `Served`, `ServedWeaves`, `ServedStores`, `HostFiles`, `AfterStops`,
+//! `FileWeaves`, `StoreHosts`, `StoreWeaves`, `Sources`, `Seals`, `Recording`. A law has no case of its own; `stopping_tests` of `checks_games` runs `run_after`,
 //! and `tools/host_games` plays games between two hosts.
 //!
 //! - CLAIM: `arbiters_are_worlds`: two arbiters of one game over keepers of any one type, by steps as the contracts of `open` and
@@ -39,6 +39,10 @@
 //!   `served_are_worlds`; `served_beside_a_host`: so two of them, and one on either side of a host, come to a world.
 //! - CLAIM: `served_are_woven`: two servers, each over files, come to a net as `hosts_are_worlds` asks, by where each opening begins: that
 //!   keepers keep, and what a closing leaves, are no premises.
+//! - CLAIM: `served_stores_are_woven`: two servers, each over a store, or one over a store and one over files, come to a net as `hosts_are_worlds`
+//!   asks, by the acts that happened of their runs, wherever each run stopped: of each run over a store those of its first turns, among them
+//!   each turn whose answers went out. What a start finds in each store, or file, is kept there; that keepers keep, and what a closing
+//!   leaves, are no premises.
 //! - CLAIM: of the servers of `arbiter_server` too: `host_keeps_what_it_told`: what a host told of a game is found at each later start over the file of its record: as many
 //!   moves as it acknowledged, the same ones, and a verdict at its ply. This holds over any files, after any runs, wherever each
 //!   stopped.
@@ -70,6 +74,7 @@ mod listens;
 mod recording;
 mod seals;
 mod served;
+mod served_stores;
 mod sources;
 mod store_hosts;
 
@@ -84,6 +89,7 @@ pub use served::{
     served_are_hosted, served_are_worlds, served_are_woven, served_beside_a_host,
     served_folder_is_hosted, served_game_is_hosted,
 };
+pub use served_stores::served_stores_are_woven;
 pub use sources::{sends_the_log, sources_tell_the_truth};
 pub use store_hosts::{
     answers_are_found, fronts_are_found, hosts_over_stores, store_keeps_what_it_told,
