@@ -9,7 +9,7 @@ use Rattle.served_games.specs.StoreRuns.{CommitsNone, NoneCommitted}
 use Rattle.served_games.proofs.AtOnce.{if_same}
 use Rattle.served_games.proofs.Stamping.{stamps_apart}
 
-same_or_not : (a b : List ℕ) → (a ≡ b) ⊎ (a ≢ b)
+pub same_or_not : (a b : List ℕ) → (a ≡ b) ⊎ (a ≢ b)
 same_or_not a b = by (bytes_eq a b) refl
   where
     by : (x : Bool) → bytes_eq a b ≡ x → (a ≡ b) ⊎ (a ≢ b)

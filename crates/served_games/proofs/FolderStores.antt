@@ -1,5 +1,5 @@
 -- What a game of a folder told over a store lasts.
-use Rattle.std.proofs.Common.{◌≡◌, ◌∙◌, ℕ, List, [], ◌∷◌, Option, ap, subst}
+use Rattle.std.proofs.Common.{◌∙◌, ℕ, List, [], ◌∷◌, ap}
 use Rattle.std.specs.List.{AllByRecursion}
 use Rattle.arbiter_core.specs.Setups.{SetupView}
 use Rattle.arbiter_server.specs.GameFiles.{SpellsGame, game_as_told}
@@ -10,9 +10,8 @@ use Rattle.timeline.specs.Outsides.{Outside}
 use Rattle.game_folder.specs.StoreGames.{StoredGames, store_games_facts}
 use Rattle.game_server.specs.Seats.{common}
 use Rattle.served_games.specs.Durable.{ServedRun, work_of}
-use Rattle.served_games.specs.FolderStores.{IsRunOfStore, StoreGamesAreLed, StoreGamesKeepWhatTheyTold, first_sought, stored_place}
-use Rattle.served_games.specs.StoreRuns.{IsRunOver, LeadOn}
-use Rattle.served_games.proofs.Choosing.{only}
+use Rattle.served_games.specs.FolderStores.{IsRunOfStore, StoreGamesAreLed, StoreGamesKeepWhatTheyTold, stored_place}
+use Rattle.served_games.specs.StoreRuns.{IsRunOver}
 use Rattle.served_games.proofs.FolderRuns.{found_so}
 use Rattle.served_games.proofs.OneGames.{begun_hears, same_setup}
 use Rattle.served_games.proofs.StoreRuns.{runs_are_led, runs_are_told}
@@ -44,11 +43,9 @@ module _ {T P F K S L : Type 0} (o : Outside T P F K S L) (t : CommonView) (game
   are_over (r ∷ rs) h = (is_over r h.0, are_over rs h.1)
 
 pub store_games_keep_what_they_told : {T P F K S L : Type 0} (o : Outside T P F K S L) → StoreGamesKeepWhatTheyTold o
-store_games_keep_what_they_told o t game text folder path stamp there found runs spells are durable m =
-    runs_are_told o (stored_place folder path) stamp (setup_of t game.name.items game.start game.delay) (first_sought path stamp there) runs found (are_over o t game text folder path stamp spells runs are) durable.1 m
+store_games_keep_what_they_told o t game text folder path stamp past found runs spells are durable m =
+    runs_are_told o (stored_place folder path) stamp (setup_of t game.name.items game.start game.delay) past runs found (are_over o t game text folder path stamp spells runs are) durable m
 
 pub store_games_are_led : {T P F K S L : Type 0} (o : Outside T P F K S L) → StoreGamesAreLed o
-store_games_are_led o t game text folder path stamp there found runs spells are durable m =
-    let setup = setup_of t game.name.items game.start game.delay in
-    let led = runs_are_led o (stored_place folder path) stamp setup (first_sought path stamp there) runs found (are_over o t game text folder path stamp spells runs are) durable.1 m in
-    subst (λ (x : Option (List ℕ)). LeadOn o (stored_place folder path) stamp setup x runs found) (only path stamp [] there led.0 led.1) led.2
+store_games_are_led o t game text folder path stamp past found runs spells are durable m =
+    runs_are_led o (stored_place folder path) stamp (setup_of t game.name.items game.start game.delay) past runs found (are_over o t game text folder path stamp spells runs are) durable m

@@ -29,7 +29,7 @@ push_bytes : (b : Bool) (r : StoredRecord) (o : Option StoredRecord) → its_byt
 push_bytes true r o = refl
 push_bytes false r o = refl
 
-last_same : (records : Records) (entries : List Entry) (stamp : List ℕ) → its_bytes (with_all records entries stamp) ≡ last_among stamp (its_bytes (records stamp)) (map stamped entries)
+pub last_same : (records : Records) (entries : List Entry) (stamp : List ℕ) → its_bytes (with_all records entries stamp) ≡ last_among stamp (its_bytes (records stamp)) (map stamped entries)
 last_same records [] stamp = refl
 last_same records (e ∷ es) stamp =
     last_same (with_entry records e) es stamp ∙ ap (λ (l : Option (List ℕ)). last_among stamp l (map stamped es)) (push_bytes (bytes_eq e.stamp stamp) (entry_record e) (records stamp))

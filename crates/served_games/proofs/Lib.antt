@@ -23,3 +23,4 @@ pub mod Noting
 pub mod Fronts
 pub mod StoreRuns
 pub mod FolderStores
+pub mod StoreHistories

@@ -9,3 +9,4 @@ pub mod FileHistories
 pub mod InOrder
 pub mod StoreRuns
 pub mod FolderStores
+pub mod StoreHistories

@@ -10,6 +10,7 @@ ghost use Rattle.served_games.specs.InOrder.{StoreCommitsAreFound, StoreGamesAre
 ghost use Rattle.served_games.specs.Lasting.{EachLasts};
 ghost use Rattle.served_games.specs.OneGames.{OneGameKeepsWhatItTold};
 ghost use Rattle.served_games.specs.ServedGames.{GamesArePlayed, PlayedAreHosted};
+ghost use Rattle.served_games.specs.StoreHistories.{StoresAreDurable};
 ghost use Rattle.served_games.specs.StoreRuns.{StoreRunsAreLed, StoreRunsAreTold};
 
 use game_folder::Games;
@@ -83,6 +84,12 @@ pub fn one_game_keeps_what_it_told<S: System>(_system: &S)
 /// stops leaves what was there or its bytes, and nobody else writes it.
 pub fn files_are_durable<S: System>(_system: &S)
     ensures { FilesAreDurable (S.outside _system.now) }
+{}
+
+/// A store is durable, where each call at it does what `System` promises (`stores::open`, `stores::find`, `stores::commit`), its disk returned what was
+/// written, a commit in which the process stops leaves what was there or the whole batch, and nobody else writes it.
+pub fn stores_are_durable<S: System>(_system: &S)
+    ensures { StoresAreDurable (S.outside _system.now) }
 {}
 
 /// What is noted of games, and committed to a store, is kept in order, call by call: a taking finds what was put last, whether or not that is

@@ -6,9 +6,10 @@
 //!
 //! A start finds what was put, committed or found last; behind a put or a commit that failed, that or what was there before (`MayFind`). That
 //! each start of the past found such is the one premise on files and stores (`IsDurable`). Of a file it follows from what `System` promises of
-//! a start and a put, where nobody else writes the file and the disk keeps what it took (`FilesAreDurable`).
+//! a start and a put, where nobody else writes the file and the disk keeps what it took (`FilesAreDurable`); so it does of a store
+//! (`StoresAreDurable`).
 //!
-//! Inside: `laws`; `files`, what `System` promises of a call at a file, as a step of the file's history. In `proofs/`: `Carrying` (an answer over a
+//! Inside: `laws`; `files` and `stores`, what `System` promises of a call at a file or a store, as a step of its history. In `proofs/`: `Carrying` (an answer over a
 //! draft as one over what is kept), `Opening`, `Going` (acts behind others), `Playing` (one datagram), `Running` (a run), `Telling` and `Lasting`
 //! (what was told, over acts and runs), `Finding` (what may be found behind acts), `Asides` (events that change nothing of it), `Following` (a
 //! run), `Enduring` (all runs); `Stamping` (stamps are bytes, and paths of two differ), `AtOnce` (files), `OneGames`, `FolderRuns`,
@@ -19,7 +20,7 @@
 //! Definitions, in reading order: `PlaceKeepers`, `ServedGames` (`GoesOn`, `PlaysAll`, `OpenedGame`), `Lasting` (`WhatWasToldLasts`), `Durable`
 //! (`MayFind`, `IsDurable`, `KeepsAtOnce`, `RunsLast`), `Unasked` (`Begins`), `OneGames` (`OneGameKeepsWhatItTold`), `FolderRuns`
 //! (`FolderGamesKeepWhatTheyTold`), `FileHistories` (`FilesAreDurable`), `InOrder` (`KeepsInOrder`, `GamesAreTaken`, `CommitsAreFound`), `StoreRuns`
-//! (`Front`, `StoreRunsAreTold`, `StoreRunsAreLed`), `FolderStores` (`StoreGamesKeepWhatTheyTold`).
+//! (`Front`, `StoreRunsAreTold`, `StoreRunsAreLed`), `FolderStores` (`StoreGamesKeepWhatTheyTold`), `StoreHistories` (`StoresAreDurable`).
 //!
 //! - CLAIM: `laws::games_are_played`; `laws::played_are_hosted`: in a run each game has its own acts, from where it was to where it is; for each
 //!   datagram of the game they have its reply, and the events that were made for it. They go on from one another as those of a host, where each
@@ -38,6 +39,7 @@
 //! - CLAIM: `laws::folder_games_keep_what_they_told`: so does what a game of a folder told, over all runs of new servers of the folder, where its
 //!   own file has the game's text whenever it is read, and the file of its record is durable.
 //! - CLAIM: `laws::files_are_durable`; `files::start`, `files::put`: a file is durable, where each call at it does what `System` promises.
+//! - CLAIM: `laws::stores_are_durable`; `stores::open`, `stores::find`, `stores::commit`: so is a store.
 //! - CLAIM: `laws::store_games_keep_in_order`; `laws::store_games_are_taken`: records that are noted, and committed to a store, are kept in order,
 //!   call by call; so in a run, where the store is durable, each opening is over what was left, and while more can be committed, what a taking
 //!   may find is what the game keeps or left, whether or not that is committed.
@@ -52,3 +54,4 @@
 
 pub mod files;
 pub mod laws;
+pub mod stores;

@@ -20,12 +20,10 @@ use Rattle.game_folder.specs.StoreGames.{StoredGames, StoredPlace, store_games_f
 use Rattle.game_server.specs.Rounds.{Heard}
 use Rattle.game_server.specs.Seats.{common}
 use Rattle.served_games.specs.Durable.{AreServedRuns, IsDurableAfter, IsToldAt, KeepsAtOnce, MayFind, ServedRun, behind, events_of, events_of_all, heard_in_run, left_before}
-use Rattle.served_games.specs.FolderStores.{first_sought}
 use Rattle.served_games.specs.Lasting.{IsOfOne, left_by}
 use Rattle.served_games.specs.PlaceKeepers.{Follows, PlaceKeeper, found_keeper, place_keepers}
 use Rattle.served_games.specs.ServedGames.{AreOverLeft, Makes, MakesAll, OpenedGame, acts_in, all_acts, game_at, life_by, life_through, made_for}
 use Rattle.served_games.specs.StoreRuns.{AllHeard, FirstTurns, Front, LeadOn, NoTurns, begun_of, heard_of, unasked_of}
-use Rattle.served_games.proofs.Choosing.{only}
 use Rattle.served_games.proofs.Enduring.{all_both, all_first, all_rest, over_fresh, run_done}
 use Rattle.served_games.proofs.Finding.{behind_join, durable_first, durable_rest, follows_kept, left_act, left_acts, over_join}
 use Rattle.served_games.proofs.Going.{Acts, Life, leads_join, left_first, left_rest, opening_on, own_join, playing_on}
@@ -160,9 +158,8 @@ module _ {T P F K S L : Type 0} (o : Outside T P F K S L) (game : Judged) (who :
 
 store_happened : {T P F K S L : Type 0} (o : Outside T P F K S L) (game : Judged) (who : ArbiterId) (at : StoreServer o game who) → StoreHappened o game who at
 store_happened o game who at =
-    let path = at.place.store_path in
-    let led = runs_are_led o at.place game.stamp at.setup (first_sought path game.stamp None) at.runs at.found at.are at.durable.1 at.finds in
-    let c = store_chain o game who at.place at.setup at.start at.delay (found_keeper None) led.0 (inl (only path game.stamp [] None led.0 led.1)) at.runs at.found at.of led.2 in
+    let led = runs_are_led o at.place game.stamp at.setup at.past at.runs at.found at.are at.durable at.finds in
+    let c = store_chain o game who at.place at.setup at.start at.delay (found_keeper None) led.0 (inl (at.none led.0 led.1)) at.runs at.found at.of led.2 in
     record { acts = c.acts; of_runs = c.of_runs; led = record { hosted = c.hosted; last = c.last; in_turn = c.in_turn; follows = c.follows } }
 
 -- ---- the runs over files

@@ -18,7 +18,7 @@ use Rattle.arbiter_server.specs.Acts.{Action, game_of}
 use Rattle.arbiter_server.specs.Folders.{Keepers}
 use Rattle.arbiter_server.specs.Games.{CommonView, Fresh, Shut}
 use Rattle.relay_world.specs.Worlds.{Judged}
-use Rattle.timeline.specs.Events.{Event, RecordSought}
+use Rattle.timeline.specs.Events.{Event}
 use Rattle.timeline.specs.Outsides.{Outside}
 use Rattle.game_folder.specs.Drafts.{DraftView}
 use Rattle.game_folder.specs.Holdings.{GamesFacts}
@@ -27,8 +27,7 @@ use Rattle.game_folder.specs.StoreGames.{StoredGames, StoredPlace, store_games_f
 use Rattle.arbiter_core.specs.Delivers.{Moment}
 use Rattle.game_server.specs.Rounds.{Heard}
 use Rattle.game_server.specs.Seats.{common}
-use Rattle.served_games.specs.Durable.{AreServedRuns, IsDurable, IsDurableAfter, IsToldAt, KeepsAtOnce, MayFind, ServedRun, behind, events_of_all, heard_in_run}
-use Rattle.served_games.specs.FolderStores.{first_sought}
+use Rattle.served_games.specs.Durable.{AreServedRuns, IsDurableAfter, IsToldAt, KeepsAtOnce, MayFind, ServedRun, behind, events_of_all, heard_in_run}
 use Rattle.served_games.specs.Lasting.{left_by}
 use Rattle.served_games.specs.PlaceKeepers.{Follows, PlaceKeeper, found_keeper, place_keepers}
 use Rattle.served_games.specs.ServedGames.{AreOverLeft, OpenedGame, all_acts, game_at, life_through}
@@ -77,10 +76,12 @@ pub record StoreServer {T P F K S L : Type 0} (o : Outside T P F K S L) (game : 
   pub runs : List (ServedRun (StoredGames S) F)
   pub of : AllByRecursion (IsRunAt game who) runs
   pub are : AllByRecursion (IsRunOver o place game.stamp setup) runs
+  pub past : List Event
   -- premise (who else writes the store, the disk): nothing of the game is found at first, and the store is durable
-  pub durable : IsDurable (InStore place.store_path) game.stamp (RecordSought place.store_path game.stamp None ∷ events_of_all runs)
+  pub none : (found : Option (List ℕ)) → MayFind (InStore place.store_path) game.stamp past found → found ≡ None
+  pub durable : IsDurableAfter (InStore place.store_path) game.stamp past (events_of_all runs)
   pub found : Option (List ℕ)
-  pub finds : MayFind (InStore place.store_path) game.stamp (behind (first_sought place.store_path game.stamp None) (events_of_all runs)) found
+  pub finds : MayFind (InStore place.store_path) game.stamp (behind past (events_of_all runs)) found
 
 -- what counts of a run, and the acts that happened in it
 pub record StoreActs {T P F K S L : Type 0} (o : Outside T P F K S L) (place : StoredPlace) (stamp : List ℕ) (setup : SetupView) (r : ServedRun (StoredGames S) F) (acts : List (Action PlaceKeeper)) : Type 0 where
