@@ -33,7 +33,7 @@ module _ {T P F K S L : Type 0} (o : Outside T P F K S L) (t : CommonView) (game
     opens = begun_hears o (store_games_facts o) r.old r.begun r.unasked h.begins;
     in_turns = h.in_turns;
     hears = h.hears;
-    first_none = h.first_none;
+    imports = h.imports;
     asked_none = h.asked_none;
     stops = h.stops;
   }

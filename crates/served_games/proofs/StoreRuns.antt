@@ -1,5 +1,5 @@
 -- What was told over a store lasts, by the events of all runs.
-use Rattle.std.proofs.Common.{◌≡◌, ◌⊎◌, inl, inr, ◌∙◌, ℕ, false, List, [], ◌∷◌, ◌++◌, map, Option, Some, None, flat_map, refl, sym, ap, subst}
+use Rattle.std.proofs.Common.{◌≡◌, ◌⊎◌, inl, inr, ◌∙◌, ℕ, Bool, true, false, List, [], ◌∷◌, ◌++◌, map, Option, Some, None, flat_map, refl, sym, ap, subst, append_assoc}
 use Rattle.std.specs.Prelude.{Ok}
 use Rattle.std.specs.List.{AllByRecursion, Contains}
 use Rattle.std.proofs.lemmas.List.Concat.{flat_map-append}
@@ -9,6 +9,7 @@ use Rattle.arbiter_core.specs.Setups.{SetupView}
 use Rattle.arbiter_server.specs.Acts.{Action, Unread, Strange, Refuses, Opens, Answers, Closes}
 use Rattle.arbiter_server.specs.Games.{CommonView, Fresh, Open, Shut, setup_of}
 use Rattle.arbiter_server.specs.declared.games.GameConfig.{GameConfig}
+use Rattle.system_io.specs.Records.{StoredRecord}
 use Rattle.timeline.specs.Events.{Committed, Event, RecordSought, stamped}
 use Rattle.timeline.specs.Outsides.{Outside}
 use Rattle.game_folder.specs.Drafts.{DraftView}
@@ -19,12 +20,13 @@ use Rattle.game_server.specs.Rounds.{Heard, HearsAll, heard_events}
 use Rattle.game_server.specs.Runs.{Turn, run_events, turn_events}
 use Rattle.game_server.specs.Seats.{common, open_at}
 use Rattle.game_server.specs.declared.server.Server.{Server}
-use Rattle.served_games.specs.Durable.{IsDurableAfter, MayFind, ServedRun, StaysFound, behind, events_of, events_of_all, heard_in_run, made_of, turned_of, work_of}
+use Rattle.served_games.specs.Durable.{HasBatch, IsDurableAfter, MayFind, ServedRun, StaysFound, behind, events_of, events_of_all, heard_in_run, last_of, made_of, turned_of, work_of}
 use Rattle.served_games.specs.InOrder.{CanCommit, FindsItsOwn, MayTakeStored}
 use Rattle.served_games.specs.Lasting.{Between, IsOfOne, IsToldStill, PlaceRun, RanInTurn, left_by}
 use Rattle.served_games.specs.PlaceKeepers.{Follows, PlaceKeeper, found_keeper}
 use Rattle.served_games.specs.ServedGames.{AreOverLeft, OpenedGame, PlaysAll, acts_in, all_acts, game_at, heard_in_turns, made_for}
-use Rattle.served_games.specs.StoreRuns.{AllHeard, BetweenCalls, FirstTurns, InCommit, IsKeptOf, IsLeftSo, IsRunOver, LeadFrom, LeadOn, LeadsTo, NoTurns, NoneCommitted, StopsAt, StoreRunsAreLed, StoreRunsAreTold}
+use Rattle.served_games.specs.StoreRuns.{AllHeard, AsFound, BeginsBy, BeginsOver, BetweenCalls, FirstTurns, Imports, InCommit, IsKeptOf, IsLeftSo, IsRunOver, LeadFrom, LeadOn, LeadsTo, NoImport, NoTurns, NoneCommitted, OverImport, StopsAt, StoreRunsAreLed, StoreRunsAreTold}
+use Rattle.served_games.proofs.AtOnce.{if_same}
 use Rattle.served_games.proofs.Choosing.{choose, none_stays, only}
 use Rattle.served_games.proofs.Enduring.{all_first, all_both, all_one, all_rest, closed_at, for_made, for_run, for_turns, over_fresh}
 use Rattle.served_games.proofs.Finding.{behind_join, durable_first, durable_rest}
@@ -71,12 +73,78 @@ module _ {T P F K S L : Type 0} (o : Outside T P F K S L) (place : StoredPlace) 
   heard_stays : (old new : Server (StoredGames S) F) (hs : List Heard) (past : List Event) → HearsAll o (store_games_facts o) old hs new → Durable past (flat_map heard_events hs) → StaysFound (InStore path) stamp past (flat_map heard_events hs)
   heard_stays old new hs past p durable = none_stays path stamp past (flat_map heard_events hs) (heard_none o path stamp old new hs p) durable
 
-  module _ (past : List Event) (was : Option (List ℕ)) (r : Run) (h : IsRunOver o place stamp setup r) (durable : Durable (RecordSought path stamp was ∷ past) (events_of r)) where
+  -- ---- how a run begins
+
+  module _ (past first : List Event) (durable : Durable past first) (begins : Option (List ℕ)) (m : May (behind past first) begins) where
+    -- what was found before it
+    abbrev Before : Type 0
+    Before = (was : Option (List ℕ)) × May past was × BeginsOver path stamp first was begins
+
+    module _ (early mid rest : List Event) (records : List (List ℕ × StoredRecord)) (is_done : Bool) (none_early : NoneCommitted path stamp early) (none_mid : NoneCommitted path stamp mid) (none_rest : NoneCommitted path stamp rest)
+        (are : first ≡ early ++ RecordSought path stamp None ∷ (mid ++ Committed path records is_done ∷ rest)) where
+      abbrev looked : Event
+      looked = RecordSought path stamp None
+
+      abbrev imported : Event
+      imported = Committed path records is_done
+
+      abbrev x : List Event
+      x = behind past early
+
+      abbrev z : List Event
+      z = behind (looked ∷ x) mid
+
+      durable_all : Durable past (early ++ looked ∷ (mid ++ imported ∷ rest))
+      durable_all = subst (Durable past) are durable
+
+      durable_look : Durable x (looked ∷ (mid ++ imported ∷ rest))
+      durable_look = durable_rest (InStore path) stamp past early (looked ∷ (mid ++ imported ∷ rest)) durable_all
+
+      none_before : May past None
+      none_before = none_stays path stamp past early none_early (durable_first (InStore path) stamp past early (looked ∷ (mid ++ imported ∷ rest)) durable_all) None (durable_look.0 refl refl)
+
+      none_then : (found : Option (List ℕ)) → May z found → found ≡ None
+      none_then found may = only path stamp x None found (none_stays path stamp (looked ∷ x) mid none_mid (durable_first (InStore path) stamp (looked ∷ x) mid (imported ∷ rest) durable_look.1) found may)
+
+      behind_import : May (imported ∷ z) begins
+      behind_import =
+          none_stays path stamp (imported ∷ z) rest none_rest (durable_rest (InStore path) stamp (looked ∷ x) mid (imported ∷ rest) durable_look.1).1 begins
+          (subst (λ (l : List Event). May l begins) (ap (behind past) are ∙ behind_join past early (looked ∷ (mid ++ imported ∷ rest)) ∙ behind_join (looked ∷ x) mid (imported ∷ rest)) m)
+
+      abbrev Either : Type 0
+      Either = (begins ≡ last_of stamp records) ⊎ (begins ≡ None)
+
+      of_batch : (last : Option (List ℕ)) → last_of stamp records ≡ last → HasBatch last begins (May z begins) → Either
+      of_batch None is may = inr (none_then begins may)
+      of_batch (Some bytes) is may = inl (may ∙ sym is)
+
+      of_undone : HasBatch (last_of stamp records) begins (May z begins) ⊎ May z begins → Either
+      of_undone (inl batch) = of_batch (last_of stamp records) refl batch
+      of_undone (inr old) = inr (none_then begins old)
+
+      of_import : (b : Bool) → May (Committed path records b ∷ z) begins → Either
+      of_import true may = of_batch (last_of stamp records) refl (if_same path (HasBatch (last_of stamp records) begins (May z begins)) (May z begins) may)
+      of_import false may = of_undone (if_same path (HasBatch (last_of stamp records) begins (May z begins) ⊎ May z begins) (May z begins) may)
+
+      import_back : Before
+      import_back = by (of_import is_done behind_import)
+        where
+          by : Either → Before
+          by (inl e) = (None, none_before, OverImport (early ++ looked ∷ mid) rest records is_done (are ∙ sym (append_assoc early (looked ∷ mid) (imported ∷ rest))) refl e)
+          by (inr e) = (None, none_before, AsFound e)
+
+    begin_back : BeginsBy path stamp first → Before
+    begin_back (NoImport none) = (begins, none_stays path stamp past first none durable begins m, AsFound refl)
+    begin_back (Imports early mid rest records is_done none_early none_mid none_rest are) = import_back early mid rest records is_done none_early none_mid none_rest are
+
+  -- ---- from where it begins
+
+  module _ (past : List Event) (was begins : Option (List ℕ)) (r : Run) (from : BeginsOver path stamp r.first was begins) (h : IsRunOver o place stamp setup r) (durable : Durable (RecordSought path stamp begins ∷ behind past r.first) (work_of r ++ r.tail)) where
     abbrev t : CommonView
     t = common r.old
 
     abbrev before : PlaceKeeper
-    before = found_keeper was
+    before = found_keeper begins
 
     abbrev Here : Server (StoredGames S) F → Type 0
     Here server = IsHere o (store_games_facts o) CanCommit (MayTakeStored o) (store_keeps_in_order o) stamp place t before server
@@ -98,11 +166,8 @@ module _ {T P F K S L : Type 0} (o : Outside T P F K S L) (place : StoredPlace) 
     abbrev late : List Event
     late = flat_map heard_events r.heard
 
-    abbrev p0 : List Event
-    p0 = RecordSought path stamp was ∷ past
-
     abbrev a : List Event
-    a = behind p0 r.first
+    a = RecordSought path stamp begins ∷ behind past r.first
 
     abbrev b : List Event
     b = behind a opened
@@ -119,26 +184,20 @@ module _ {T P F K S L : Type 0} (o : Outside T P F K S L) (place : StoredPlace) 
     joined_work : behind a (work_of r) ≡ e
     joined_work = behind_join a opened (r.asked ++ (turned ++ late)) ∙ behind_join b r.asked (turned ++ late) ∙ behind_join c turned late
 
-    joined : behind p0 (events_of r) ≡ behind e r.tail
-    joined = behind_join p0 r.first (work_of r ++ r.tail) ∙ behind_join a (work_of r) r.tail ∙ ap (λ (l : List Event). behind l r.tail) joined_work
-
-    durable_after : Durable a (work_of r ++ r.tail)
-    durable_after = durable_rest (InStore path) stamp p0 r.first (work_of r ++ r.tail) durable
+    joined : behind a (work_of r ++ r.tail) ≡ behind e r.tail
+    joined = behind_join a (work_of r) r.tail ∙ ap (λ (l : List Event). behind l r.tail) joined_work
 
     durable_work : Durable a (work_of r)
-    durable_work = durable_first (InStore path) stamp a (work_of r) r.tail durable_after
+    durable_work = durable_first (InStore path) stamp a (work_of r) r.tail durable
 
     durable_tail : Durable e r.tail
-    durable_tail = subst (λ (l : List Event). Durable l r.tail) joined_work (durable_rest (InStore path) stamp a (work_of r) r.tail durable_after)
+    durable_tail = subst (λ (l : List Event). Durable l r.tail) joined_work (durable_rest (InStore path) stamp a (work_of r) r.tail durable)
 
     durable_asked : Durable b (r.asked ++ (turned ++ late))
     durable_asked = durable_rest (InStore path) stamp a opened (r.asked ++ (turned ++ late)) durable_work
 
     durable_turns : Durable c (turned ++ late)
     durable_turns = durable_rest (InStore path) stamp b r.asked (turned ++ late) durable_asked
-
-    first_stays : StaysFound (InStore path) stamp p0 r.first
-    first_stays = none_stays path stamp p0 r.first h.first_none (durable_first (InStore path) stamp p0 r.first (work_of r ++ r.tail) durable)
 
     opened_stays : StaysFound (InStore path) stamp a opened
     opened_stays = none_stays path stamp a opened (made_none o path stamp r.old r.begun r.unasked h.opens) (durable_first (InStore path) stamp a opened (r.asked ++ (turned ++ late)) durable_work)
@@ -150,8 +209,8 @@ module _ {T P F K S L : Type 0} (o : Outside T P F K S L) (place : StoredPlace) 
     late_stays = heard_stays r.mid r.new r.heard d h.hears (durable_rest (InStore path) stamp c turned late durable_turns)
 
     -- before the turns what was found at first is found
-    first_is : (found : Option (List ℕ)) → May c found → found ≡ was
-    first_is found m = only path stamp past was found (first_stays found (opened_stays found (asked_stays found m)))
+    first_is : (found : Option (List ℕ)) → May c found → found ≡ begins
+    first_is found m = only path stamp (behind past r.first) begins found (opened_stays found (asked_stays found m))
 
     -- ---- the servers are there
 
@@ -171,7 +230,7 @@ module _ {T P F K S L : Type 0} (o : Outside T P F K S L) (place : StoredPlace) 
 
     found_first : FoundBy r.old Fresh a
     found_first fit found m =
-        inl (only path stamp past was found (first_stays found (subst (λ (x : List ℕ). MayFind (InStore x) stamp a found) h.store (none_noted o stamp r.old.shared.games a h.none_noted found m))))
+        inl (only path stamp (behind past r.first) begins found (subst (λ (x : List ℕ). MayFind (InStore x) stamp a found) h.store (none_noted o stamp r.old.shared.games a h.none_noted found m)))
 
     unasked : Taken Fresh r.unasked r.begun b
     unasked =
@@ -217,9 +276,11 @@ module _ {T P F K S L : Type 0} (o : Outside T P F K S L) (place : StoredPlace) 
         (all_first Happened (run_events r.to first) (run_events r.to later)
         (subst (AllByRecursion Happened) (ap (run_events r.to) are ∙ flat_map-append (turn_events r.to) first later) (all_first Happened turned late late_happened)))
 
-    nothing_leads : (found : Option (List ℕ)) → (none : Rattle.served_games.specs.StoreRuns.NoneSent r.turns) → found ≡ was → LeadsTo o place stamp setup was found r
+    nothing_leads : (found : Option (List ℕ)) → (none : Rattle.served_games.specs.StoreRuns.NoneSent r.turns) → found ≡ begins → LeadsTo o place stamp setup was found r
     unfolding PlaysAll
     nothing_leads found none is = record {
+      begins = begins;
+      from = from;
       front = NoTurns none;
       game = record { first = []; mid = Fresh; opens = refl; at = tt; each = []; life = Fresh; plays = refl };
       over = tt;
@@ -231,6 +292,8 @@ module _ {T P F K S L : Type 0} (o : Outside T P F K S L) (place : StoredPlace) 
     turns_lead found k =
         let over = its_over (heard_in_turns k.first) k.each k.to k.plays k.over in
         record {
+          begins = begins;
+          from = from;
           front = FirstTurns k.first k.later k.are k.none;
           game = its (heard_in_turns k.first) k.each k.to k.plays;
           over = over;
@@ -291,6 +354,8 @@ module _ {T P F K S L : Type 0} (o : Outside T P F K S L) (place : StoredPlace) 
           let k = all_heard.played in
           let over = its_over (heard_in_run r) k.each k.life k.plays all_heard.over in
           record {
+            begins = begins;
+            from = from;
             front = AllHeard early rest (map stamped r.new.shared.games.noted) is;
             game = its (heard_in_run r) k.each k.life k.plays;
             over = over;
@@ -308,7 +373,7 @@ module _ {T P F K S L : Type 0} (o : Outside T P F K S L) (place : StoredPlace) 
           by (inl whole) = whole_leads found whole
           by (inr old) = late_leads found (early_stays found (subst (λ (x : List ℕ). MayFind (InStore x) stamp f found) its_path old))
 
-    run_leads : (found : Option (List ℕ)) → May (behind p0 (events_of r)) found → LeadsTo o place stamp setup was found r
+    run_leads : (found : Option (List ℕ)) → May (behind a (work_of r ++ r.tail)) found → LeadsTo o place stamp setup was found r
     run_leads found m = by h.stops
       where
         behind_all : May (behind e r.tail) found
@@ -326,8 +391,11 @@ module _ {T P F K S L : Type 0} (o : Outside T P F K S L) (place : StoredPlace) 
       let events = events_of r in
       let rest = events_of_all rs in
       let later = runs_lead (behind past events) rs found h.1 (durable_rest (InStore path) stamp past events rest durable) (subst (λ (l : List Event). May l found) (behind_join past events rest) m) in
-      let k = choose path stamp past events later.0 (durable_first (InStore path) stamp past events rest durable) later.1 in
-      (k.first, k.may, (later.0, run_leads past k.first r h.0 k.durable later.0 k.leads, later.2))
+      let all = work_of r ++ r.tail in
+      let mine : Durable past events = durable_first (InStore path) stamp past events rest durable in
+      let k = choose path stamp (behind past r.first) all later.0 (durable_rest (InStore path) stamp past r.first all mine) (subst (λ (l : List Event). May l later.0) (behind_join past r.first all) later.1) in
+      let b = begin_back past r.first (durable_first (InStore path) stamp past r.first all mine) k.first k.may h.0.imports in
+      (b.0, b.1, (later.0, run_leads past b.0 k.first r b.2 h.0 k.durable later.0 k.leads, later.2))
 
   -- ---- what was told
 
@@ -350,33 +418,80 @@ module _ {T P F K S L : Type 0} (o : Outside T P F K S L) (place : StoredPlace) 
   left_follows before was f (Shut left) found h = h
   left_follows before was f (Open now) found h = inl h
 
+  -- where nothing is found, nothing was told
+  none_told : (next : PlaceKeeper) (act : Action PlaceKeeper) → IsToldStill (found_keeper None) act → IsToldStill next act
+  none_told next (Unread datagram fault) h = tt
+  none_told next (Strange of datagram tried why) h = tt
+  none_told next (Refuses of datagram over fault) h = tt
+  none_told next (Opens of over arbiter) h = tt
+  none_told next (Answers of exchange) h = absurd (let g : ◌≡◌ {A = Option (List ℕ)} None (Some h.bytes) = h.there in cc)
+  none_told next (Closes of left) h = tt
+
+  all_told : (P Q : Action PlaceKeeper → Type 0) → ((act : Action PlaceKeeper) → P act → Q act) → (acts : Acts) → AllByRecursion P acts → AllByRecursion Q acts
+  all_told P Q f [] h = tt
+  all_told P Q f (act ∷ acts) h = (f act h.0, all_told P Q f acts h.1)
+
+  -- Runs up to one that begins over an import, or all: what they told is in what is found behind them, and so in what is found at last.
   record Chained (before : PlaceKeeper) (runs : List Run) (found : Option (List ℕ)) : Type 0 where
     places : List PlaceRun
     last : PlaceKeeper
     ran : RanInTurn (store_games_facts o) place stamp setup before places last
-    next : Follows last (found_keeper found)
-    tells : AllByRecursion (λ (r : PlaceRun). AllByRecursion (IsToldStill (found_keeper found)) r.acts) places → AllByRecursion (IsKeptOf o place stamp setup found) runs
+    end : Option (List ℕ)
+    next : Follows last (found_keeper end)
+    carries : (act : Action PlaceKeeper) → IsToldStill (found_keeper end) act → IsToldStill (found_keeper found) act
+    tells : AllByRecursion (λ (r : PlaceRun). AllByRecursion (IsToldStill (found_keeper end)) r.acts) places → AllByRecursion (IsKeptOf o place stamp setup found) runs
 
-  chain : (before : PlaceKeeper) (was : Option (List ℕ)) → Follows before (found_keeper was) → (runs : List Run) (found : Option (List ℕ)) → LeadOn o place stamp setup was runs found → Chained before runs found
-  chain before was f [] found led = record { places = []; last = before; ran = refl; next = subst (λ (x : Option (List ℕ)). Follows before (found_keeper x)) (sym led) f; tells = λ h. tt }
-  chain before was f (r ∷ rs) found led =
-      let l = led.1 in
+  told_in : (before : PlaceKeeper) (runs : List Run) (found : Option (List ℕ)) → Chained before runs found → AllByRecursion (IsKeptOf o place stamp setup found) runs
+  told_in before runs found k = k.tells (each_lasts (store_games_facts o) place stamp setup before k.last (found_keeper k.end) k.places k.ran k.next)
+
+  -- a run that begins over what was found before it
+  step : (before : PlaceKeeper) (was mid found : Option (List ℕ)) (r : Run) (rs : List Run) (l : LeadsTo o place stamp setup was mid r) → Follows before (found_keeper l.begins) → ((b : PlaceKeeper) → Follows b (found_keeper mid) → Chained b rs found) → Chained before (r ∷ rs) found
+  step before was mid found r rs l f later =
       let acts = acts_in l.game in
-      let over = over_follow before was f acts l.over in
-      let more = chain (left_by before l.game.life) led.0 (left_follows before was f l.game.life led.0 l.left) rs found led.2 in
+      let over = over_follow before l.begins f acts l.over in
+      let more = later (left_by before l.game.life) (left_follows before l.begins f l.game.life mid l.left) in
       let fresh = over_fresh before acts over in
       record {
         places = record { acts = acts; left = left_by before l.game.life } ∷ more.places;
         last = more.last;
         ran = (record { common = common r.old; life = l.game.life; goes = opened_goes (store_games_facts o) place (common r.old) stamp _ _ _ l.game fresh; one = l.one; over = over; stops = Between refl }, more.ran);
+        end = more.end;
         next = more.next;
-        tells = λ h. (record { front = l.front; game = l.game; over = fresh; told = h.0 }, more.tells h.1);
+        carries = more.carries;
+        tells = λ h. (record { front = l.front; game = l.game; over = fresh; told = all_told (IsToldStill (found_keeper more.end)) (IsToldStill (found_keeper found)) more.carries acts h.0 }, more.tells h.1);
       }
 
+  chain : (before : PlaceKeeper) (was : Option (List ℕ)) → Follows before (found_keeper was) → (runs : List Run) (found : Option (List ℕ)) → LeadOn o place stamp setup was runs found → Chained before runs found
+  chain before was f [] found led = record {
+    places = [];
+    last = before;
+    ran = refl;
+    end = found;
+    next = subst (λ (x : Option (List ℕ)). Follows before (found_keeper x)) (sym led) f;
+    carries = λ act h. h;
+    tells = λ h. tt;
+  }
+  chain before was f (r ∷ rs) found led = by led.1.from
+    where
+      later : (b : PlaceKeeper) → Follows b (found_keeper led.0) → Chained b rs found
+      later b g = chain b led.0 g rs found led.2
+
+      by : BeginsOver path stamp r.first was led.1.begins → Chained before (r ∷ rs) found
+      by (AsFound is) = step before was led.0 found r rs led.1 (subst (λ (x : Option (List ℕ)). Follows before (found_keeper x)) (sym is) f) later
+      by (OverImport early rest records is_done are none is) =
+          let told = told_in (found_keeper led.1.begins) (r ∷ rs) found (step (found_keeper led.1.begins) was led.0 found r rs led.1 (inl refl) later) in
+          record {
+            places = [];
+            last = before;
+            ran = refl;
+            end = was;
+            next = f;
+            carries = λ act h. none_told (found_keeper found) act (subst (λ (x : Option (List ℕ)). IsToldStill (found_keeper x) act) none h);
+            tells = λ h. told;
+          }
+
   told_by : (runs : List Run) (was found : Option (List ℕ)) → LeadOn o place stamp setup was runs found → AllByRecursion (IsKeptOf o place stamp setup found) runs
-  told_by runs was found led =
-      let k = chain (found_keeper was) was (inl refl) runs found led in
-      k.tells (each_lasts (store_games_facts o) place stamp setup (found_keeper was) k.last (found_keeper found) k.places k.ran k.next)
+  told_by runs was found led = told_in (found_keeper was) runs found (chain (found_keeper was) was (inl refl) runs found led)
 
 pub runs_are_led : {T P F K S L : Type 0} (o : Outside T P F K S L) → StoreRunsAreLed o
 runs_are_led o place stamp setup past runs found are durable m = runs_lead o place stamp setup past runs found are durable m

@@ -17,7 +17,7 @@ use Rattle.game_server.specs.Runs.{InTurns}
 use Rattle.game_server.specs.Seats.{IsNewServer}
 use Rattle.served_games.specs.Durable.{IsDurableAfter, MayFind, ServedRun, behind, events_of_all, work_of}
 use Rattle.served_games.specs.FolderRuns.{ReadsAs}
-use Rattle.served_games.specs.StoreRuns.{IsKeptOf, LeadFrom, NoneCommitted, StopsAt}
+use Rattle.served_games.specs.StoreRuns.{BeginsBy, IsKeptOf, LeadFrom, NoneCommitted, StopsAt}
 use Rattle.served_games.specs.Unasked.{Begins}
 
 -- where the files of games are, and the store of their records
@@ -26,7 +26,8 @@ stored_place folder path = record { folder = folder; store_path = path }
 
 module _ {T P F K S L : Type 0} (o : Outside T P F K S L) (t : CommonView) (text folder path stamp : List ℕ) where
   -- A run as far as it went. A new server of the folder, which has noted nothing, may open a game unasked first; then come its turns, the last of
-  -- which it may not have finished. Of the game, its file is as it was in each run, and no record of it is committed but by the turns.
+  -- which it may not have finished. Of the game, its file is as it was in each run, and no record of it is committed but by the turns, or imported
+  -- where none was found.
   pub record IsRunOfStore (r : ServedRun (StoredGames S) F) : Type 0 where
     pub games : StoredGames S
     pub there : games.folder ≡ folder
@@ -39,7 +40,7 @@ module _ {T P F K S L : Type 0} (o : Outside T P F K S L) (t : CommonView) (text
     pub in_turns : InTurns o (store_games_facts o) form texts r.begun r.turns r.mid
     pub hears : HearsAll o (store_games_facts o) r.mid r.heard r.new
     pub text_is : AllByRecursion (ReadsAs (game_path folder stamp) text) (work_of r)
-    pub first_none : NoneCommitted path stamp r.first
+    pub imports : BeginsBy path stamp r.first
     pub asked_none : NoneCommitted path stamp r.asked
     pub stops : StopsAt path stamp r.new.shared.games r.tail
 
@@ -54,8 +55,8 @@ OfStoredRuns {F} {S = S} o Holds =
     → Holds past runs (stored_place folder path) stamp (setup_of t game.name.items game.start game.delay) found
 
 -- THE LAW: What a game of a folder told over a store stays. Let its file have the game's text whenever it is read; let anything have happened
--- before, by which any record of it or none is in the store (as where it was imported); and let there be any runs of new servers of the folder
--- over the store, each with datagrams of any games, and wherever each of them stopped, be it in a commit. Premise (who else writes the store; the
+-- before, by which any record of it or none is in the store; and let there be any runs of new servers of the folder over the store, each with
+-- datagrams of any games, and wherever each of them stopped, be it in a commit. Premise (who else writes the store; the
 -- disk): the store is durable, each look finds what may be found behind all that happened before. Then whatever a start may find behind all of
 -- them is a record in which all is that each answer told that went out: as many moves as were acknowledged, the same ones, and the verdict at its
 -- ply.

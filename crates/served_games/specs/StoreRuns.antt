@@ -3,14 +3,14 @@
 -- Behind a commit that was broken off a start finds the whole batch or what was there before, and only what is found later tells which. So of each
 -- run the acts of some of its first turns count (`Front`), among them each turn whose answers went out: a turn that doesn't count is one whose
 -- answers didn't.
-use Rattle.std.specs.Prelude.{◌≡◌, ◌++◌, ℕ, false, List, [], ◌∷◌, map, Option, Some, None, Ok}
+use Rattle.std.specs.Prelude.{◌≡◌, ◌++◌, ℕ, Bool, false, List, [], ◌∷◌, map, Option, Some, None, Ok}
 use Rattle.std.specs.List.{AllByRecursion, Contains}
 use Rattle.arbiter_core.specs.Delivers.{Moment}
 use Rattle.arbiter_core.specs.Setups.{SetupView}
 use Rattle.arbiter_server.specs.Games.{Fresh, GameStatus, Open, Shut, setup_of}
 use Rattle.arbiter_server.specs.declared.games.GameConfig.{GameConfig}
 use Rattle.system_io.specs.Records.{StoredRecord}
-use Rattle.timeline.specs.Events.{Committed, Event, stamped}
+use Rattle.timeline.specs.Events.{Committed, Event, RecordSought, stamped}
 use Rattle.timeline.specs.Outsides.{Outside}
 use Rattle.game_folder.specs.Drafts.{DraftView}
 use Rattle.game_folder.specs.Places.{InStore}
@@ -68,6 +68,12 @@ CommitsNone path stamp e = Unit {0}
 abbrev pub NoneCommitted : List ℕ → List ℕ → List Event → Type 0
 NoneCommitted path stamp events = AllByRecursion (CommitsNone path stamp) events
 
+-- How a run began: no record of the game was committed; or one was, or not, where a look had found none, as where `host` imports those of files.
+pub data BeginsBy (path stamp : List ℕ) (first : List Event) : Type 0 where
+  NoImport : NoneCommitted path stamp first → BeginsBy path stamp first
+  Imports : (early mid late : List Event) (records : List (List ℕ × StoredRecord)) (is_done : Bool) → NoneCommitted path stamp early → NoneCommitted path stamp mid → NoneCommitted path stamp late
+      → first ≡ early ++ RecordSought path stamp None ∷ (mid ++ Committed path records is_done ∷ late) → BeginsBy path stamp first
+
 -- where a run stopped: between two calls; or in a commit of what was noted, which is as one that failed
 pub data StopsAt {S : Type 0} (path stamp : List ℕ) (games : StoredGames S) (tail : List Event) : Type 0 where
   BetweenCalls : NoneCommitted path stamp tail → StopsAt path stamp games tail
@@ -80,9 +86,14 @@ IsLeftSo before Fresh found = Follows before (found_keeper found)
 IsLeftSo before (Shut left) found = Follows left (found_keeper found)
 IsLeftSo before (Open now) found = found ≡ now.keeper.kept
 
+-- a run begins over what was found before it; or over a record that was imported where none was found
+pub data BeginsOver (path stamp : List ℕ) (first : List Event) (was begins : Option (List ℕ)) : Type 0 where
+  AsFound : begins ≡ was → BeginsOver path stamp first was begins
+  OverImport : (early late : List Event) (records : List (List ℕ × StoredRecord)) (is_done : Bool) → first ≡ early ++ Committed path records is_done ∷ late → was ≡ None → begins ≡ last_of stamp records → BeginsOver path stamp first was begins
+
 module _ {T P F K S L : Type 0} (o : Outside T P F K S L) (place : StoredPlace) (stamp : List ℕ) (setup : SetupView) where
   -- A run over the store at this place. Its server begins with no game open and nothing noted. Premise: whatever game was found under the stamp,
-  -- by events of this run, is this one; and before and between its turns, and when it stopped, no other record of it was committed.
+  -- by events of this run, is this one; and but by its turns, and an import where none was found, no record of it was committed.
   pub record IsRunOver (r : ServedRun (StoredGames S) F) : Type 0 where
     pub folder : r.old.shared.games.folder ≡ place.folder
     pub store : o.store_path r.old.shared.games.store ≡ place.store_path
@@ -95,7 +106,7 @@ module _ {T P F K S L : Type 0} (o : Outside T P F K S L) (place : StoredPlace) 
     pub opens : HearsAll o (store_games_facts o) r.old r.unasked r.begun
     pub in_turns : InTurns o (store_games_facts o) form texts r.begun r.turns r.mid
     pub hears : HearsAll o (store_games_facts o) r.mid r.heard r.new
-    pub first_none : NoneCommitted place.store_path stamp r.first
+    pub imports : BeginsBy place.store_path stamp r.first
     pub asked_none : NoneCommitted place.store_path stamp r.asked
     pub stops : StopsAt place.store_path stamp r.new.shared.games r.tail
 
@@ -115,11 +126,13 @@ module _ {T P F K S L : Type 0} (o : Outside T P F K S L) (place : StoredPlace) 
 
   -- over what was found before, the acts that count lead to what is found
   pub record LeadsTo (was found : Option (List ℕ)) (r : ServedRun (StoredGames S) F) : Type 0 where
+    pub begins : Option (List ℕ)
+    pub from : BeginsOver place.store_path stamp r.first was begins
     pub front : Front place.store_path r
     pub game : GameIn r front
-    pub over : AreOverLeft (Shut (found_keeper was)) (acts_in game)
+    pub over : AreOverLeft (Shut (found_keeper begins)) (acts_in game)
     pub one : AllByRecursion (IsOfOne setup) (acts_in game)
-    pub left : IsLeftSo (found_keeper was) game.life found
+    pub left : IsLeftSo (found_keeper begins) game.life found
 
   -- so do those of runs, each over what was found behind the one before it
   abbrev pub LeadOn : Option (List ℕ) → List (ServedRun (StoredGames S) F) → Option (List ℕ) → Type 0

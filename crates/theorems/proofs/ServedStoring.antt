@@ -11,7 +11,7 @@ use Rattle.arbiter_server.specs.Acts.{Action, Unread, Strange, Refuses, Opens, A
 use Rattle.arbiter_server.specs.Folders.{Keepers}
 use Rattle.arbiter_server.specs.Games.{CommonView, Fresh, Goes, Open, Shut, life_at}
 use Rattle.relay_world.specs.Worlds.{Judged}
-use Rattle.timeline.specs.Events.{Event}
+use Rattle.timeline.specs.Events.{Committed, Event}
 use Rattle.timeline.specs.Outsides.{Outside}
 use Rattle.game_folder.specs.Drafts.{DraftView}
 use Rattle.game_folder.specs.Holdings.{GamesFacts}
@@ -23,7 +23,7 @@ use Rattle.served_games.specs.Durable.{AreServedRuns, IsDurableAfter, IsToldAt, 
 use Rattle.served_games.specs.Lasting.{IsOfOne, left_by}
 use Rattle.served_games.specs.PlaceKeepers.{Follows, PlaceKeeper, found_keeper, place_keepers}
 use Rattle.served_games.specs.ServedGames.{AreOverLeft, Makes, MakesAll, OpenedGame, acts_in, all_acts, game_at, life_by, life_through, made_for}
-use Rattle.served_games.specs.StoreRuns.{AllHeard, FirstTurns, Front, LeadOn, NoTurns, begun_of, heard_of, unasked_of}
+use Rattle.served_games.specs.StoreRuns.{AllHeard, AsFound, BeginsOver, CommitsNone, FirstTurns, Front, LeadOn, NoTurns, NoneCommitted, OverImport, begun_of, heard_of, unasked_of}
 use Rattle.served_games.proofs.Enduring.{all_both, all_first, all_rest, over_fresh, run_done}
 use Rattle.served_games.proofs.Finding.{behind_join, durable_first, durable_rest, follows_kept, left_act, left_acts, over_join}
 use Rattle.served_games.proofs.Going.{Acts, Life, leads_join, left_first, left_rest, opening_on, own_join, playing_on}
@@ -124,6 +124,12 @@ module _ {T P F K S L : Type 0} (o : Outside T P F K S L) (game : Judged) (who :
   abbrev Facts : GamesFacts (StoredGames S)
   Facts = store_games_facts o
 
+  -- nothing was imported
+  begins_is : (first : List Event) (was begins : Option (List ℕ)) → BeginsOver place.store_path game.stamp first was begins → NoneCommitted place.store_path game.stamp first → begins ≡ was
+  begins_is first was begins (AsFound is) none = is
+  begins_is first was begins (OverImport early late records is_done are nothing is) none =
+      is ∙ (all_rest (CommitsNone place.store_path game.stamp) early (Committed place.store_path records is_done ∷ late) (subst (NoneCommitted place.store_path game.stamp) are none)).0 refl ∙ sym nothing
+
   requests_of : (r : ServedRun (StoredGames S) F) → AreRequests r.unasked → (front : Front place.store_path r) → AreRequests (unasked_of place.store_path game.stamp r front)
   requests_of r q (NoTurns none) = tt
   requests_of r q (FirstTurns first later are none) = q
@@ -137,16 +143,17 @@ module _ {T P F K S L : Type 0} (o : Outside T P F K S L) (game : Judged) (who :
     in_turn : AreOverInTurn game before acts last
     follows : Follows last (found_keeper found)
 
-  store_chain : (before : PlaceKeeper) (was : Option (List ℕ)) → Follows before (found_keeper was) → (runs : List (ServedRun (StoredGames S) F)) (found : Option (List ℕ)) → AllByRecursion (IsRunAt game who) runs → LeadOn o place game.stamp setup was runs found → StoreChain before runs found
-  store_chain before was f [] found of led = record { acts = []; of_runs = tt; hosted = tt; last = before; in_turn = refl; follows = subst (λ (x : Option (List ℕ)). Follows before (found_keeper x)) (sym led) f }
-  store_chain before was f (r ∷ rs) found of led =
+  store_chain : (before : PlaceKeeper) (was : Option (List ℕ)) → Follows before (found_keeper was) → (runs : List (ServedRun (StoredGames S) F)) (found : Option (List ℕ)) → AllByRecursion (IsRunAt game who) runs → AllByRecursion (λ (r : ServedRun (StoredGames S) F). NoneCommitted place.store_path game.stamp r.first) runs → LeadOn o place game.stamp setup was runs found → StoreChain before runs found
+  store_chain before was f [] found of none led = record { acts = []; of_runs = tt; hosted = tt; last = before; in_turn = refl; follows = subst (λ (x : Option (List ℕ)). Follows before (found_keeper x)) (sym led) f }
+  store_chain before was f (r ∷ rs) found of none led =
       let l = led.1 in
-      let over = over_follow o place game.stamp setup before was f (acts_in l.game) l.over in
+      let g = subst (λ (x : Option (List ℕ)). Follows before (found_keeper x)) (sym (begins_is r.first was l.begins l.from none.0)) f in
+      let over = over_follow o place game.stamp setup before l.begins g (acts_in l.game) l.over in
       let path = place.store_path in
       let k = run_counts (store_games_facts o) place (common r.old) game who of.0.of (unasked_of path game.stamp r l.front) (requests_of r of.0.requests l.front) (begun_of path game.stamp r l.front) (heard_of path game.stamp r l.front) l.game
           setup start delay before (over_fresh before (acts_in l.game) over) over l.one in
-      let next = left_follows o place game.stamp setup before was f l.game.life led.0 l.left in
-      let more = store_chain (left_by before (life_through Fresh (happened l.game))) led.0 (subst (λ (x : Life). Follows (left_by before x) (found_keeper led.0)) (sym k.life) next) rs found of.1 led.2 in
+      let next = left_follows o place game.stamp setup before l.begins g l.game.life led.0 l.left in
+      let more = store_chain (left_by before (life_through Fresh (happened l.game))) led.0 (subst (λ (x : Life). Follows (left_by before x) (found_keeper led.0)) (sym k.life) next) rs found of.1 none.1 led.2 in
       record {
         acts = happened l.game ∷ more.acts;
         of_runs = (record { front = l.front; its = l.game; acts_are = refl }, more.of_runs);
@@ -159,7 +166,7 @@ module _ {T P F K S L : Type 0} (o : Outside T P F K S L) (game : Judged) (who :
 store_happened : {T P F K S L : Type 0} (o : Outside T P F K S L) (game : Judged) (who : ArbiterId) (at : StoreServer o game who) → StoreHappened o game who at
 store_happened o game who at =
     let led = runs_are_led o at.place game.stamp at.setup at.past at.runs at.found at.are at.durable at.finds in
-    let c = store_chain o game who at.place at.setup at.start at.delay (found_keeper None) led.0 (inl (at.none led.0 led.1)) at.runs at.found at.of led.2 in
+    let c = store_chain o game who at.place at.setup at.start at.delay (found_keeper None) led.0 (inl (at.none led.0 led.1)) at.runs at.found at.of at.imports led.2 in
     record { acts = c.acts; of_runs = c.of_runs; led = record { hosted = c.hosted; last = c.last; in_turn = c.in_turn; follows = c.follows } }
 
 -- ---- the runs over files

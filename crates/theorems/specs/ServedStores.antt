@@ -7,7 +7,7 @@
 -- Of a run over files all happened. Left out is the answer by which a game was opened unasked (`Served.antt`).
 --
 -- What stays a premise: what `IsRunOver` and `IsServedRun` of served_games say of each run; that the game found under the stamp is this one, and
--- nothing of it is found at first; that the store, or the file, is durable; and that no move or request of the game is made up (`NoneIsForged`).
+-- nothing of it is found at first, or imported; that the store, or the file, is durable; and that no move or request of the game is made up (`NoneIsForged`).
 use Rattle.std.specs.Prelude.{◌≡◌, ◌++◌, ℕ, List, [], ◌∷◌, Option, Some, None}
 use Rattle.std.specs.List.{AllByRecursion}
 use Rattle.arbiter_core.specs.Setups.{SetupView}
@@ -31,7 +31,7 @@ use Rattle.served_games.specs.Durable.{AreServedRuns, IsDurableAfter, IsToldAt, 
 use Rattle.served_games.specs.Lasting.{left_by}
 use Rattle.served_games.specs.PlaceKeepers.{Follows, PlaceKeeper, found_keeper, place_keepers}
 use Rattle.served_games.specs.ServedGames.{AreOverLeft, OpenedGame, all_acts, game_at, life_through}
-use Rattle.served_games.specs.StoreRuns.{Front, GameIn, IsRunOver}
+use Rattle.served_games.specs.StoreRuns.{Front, GameIn, IsRunOver, NoneCommitted}
 use Rattle.theorems.specs.HostFiles.{IfAnswers}
 use Rattle.theorems.specs.Interleavings.{AtA, AtB, HostEvent, Asks, Does, Ends, IsRunOfHost, Step, deeds_a, deeds_b, first_run, later_runs}
 use Rattle.theorems.specs.Nets.{IsNoForgery}
@@ -76,6 +76,8 @@ pub record StoreServer {T P F K S L : Type 0} (o : Outside T P F K S L) (game : 
   pub runs : List (ServedRun (StoredGames S) F)
   pub of : AllByRecursion (IsRunAt game who) runs
   pub are : AllByRecursion (IsRunOver o place game.stamp setup) runs
+  -- premise (who writes the folder of games): no record of the game is imported from its file
+  pub imports : AllByRecursion (λ r. NoneCommitted place.store_path game.stamp r.first) runs
   pub past : List Event
   -- premise (who else writes the store, the disk): nothing of the game is found at first, and the store is durable
   pub none : (found : Option (List ℕ)) → MayFind (InStore place.store_path) game.stamp past found → found ≡ None
