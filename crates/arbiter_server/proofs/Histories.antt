@@ -1,8 +1,6 @@
--- The acts of one game, and its record through them.
-use Rattle.std.proofs.Common.{◌≡◌, ◌≤◌, ◌&&◌, ◌∙◌, ℕ, Bool, true, false, cond, List, [], ◌∷◌, ◌++◌, length, take, Option, Some, None, inl, inr, refl, sym, ap, subst, arith}
+-- The record of one game through its acts.
+use Rattle.std.proofs.Common.{◌≡◌, ℕ, Bool, true, false, cond, List, [], ◌∷◌, length, take, Option, Some, None, inl, inr, refl, sym, subst, arith}
 use Rattle.std.specs.Prelude.{Ok, Err}
-use Rattle.std.specs.List.{filter}
-use Rattle.std.specs.Str.{bytes_eq}
 use Rattle.std.proofs.lemmas.List.{take_all}
 use Rattle.board_core.specs.declared.moves.Move.{Move as Moves}
 use Rattle.judge_core.specs.Games.{Rules}
@@ -21,39 +19,15 @@ use Rattle.arbiter_core.specs.Recording.{Recorded, ReorderBuffer, reaches}
 use Rattle.arbiter_core.specs.Setups.{SetupView, rules_at}
 use Rattle.arbiter_core.specs.Views.{View}
 use Rattle.arbiter_core.proofs.Growing.{puts_grow}
-use Rattle.arbiter_server.specs.OverFiles.{GoesOn}
+use Rattle.arbiter_server.specs.Lives.{GoesOn}
 use Rattle.arbiter_server.proofs.OpenedLaws.{good_unless}
 use Rattle.arbiter_server.proofs.Telling.{IsHonest, answer_honest, still_on}
 use Rattle.arbiter_server.specs.Folders.{Keepers}
-use Rattle.arbiter_server.specs.Acts.{Action, DatagramReply, IsSorted, acts_of, all_replies, is_stamp, opens_for, replies_of, stamp_by, stamp_for}
+use Rattle.arbiter_server.specs.Acts.{Action}
 use Rattle.arbiter_server.specs.Acts as act
-use Rattle.arbiter_server.specs.Games.{CommonView, Fresh, Goes, GameStatus, Open, Shut, life_at}
+use Rattle.arbiter_server.specs.Games.{CommonView, Fresh, Goes, GameStatus, Open, Shut}
 use Rattle.arbiter_server.specs.Games as game
-use Rattle.arbiter_server.specs.Laws.{OpeningsAreFew, OwnReplies, RecordsGoOn, is_opening, opens_this}
-
--- ---- the replies of a game
-
--- its datagram names this game
-abbrev names : List ℕ → DatagramReply → Bool
-names stamp r = is_stamp stamp (stamp_for r.datagram)
-
-module _ {K : Type 0} (stamp : List ℕ) where
-  silent : (b : Bool) (a : Action K) (acts : List (Action K)) → replies_of a ≡ [] → all_replies (cond b (a ∷ acts) acts) ≡ all_replies acts
-  silent true a acts e = ap (λ (rs : List DatagramReply). rs ++ all_replies acts) e
-  silent false a acts e = refl
-
-  loud : (b : Bool) (a : Action K) (r : DatagramReply) (acts : List (Action K)) (rest : List DatagramReply) → replies_of a ≡ r ∷ [] → names stamp r ≡ b → all_replies acts ≡ filter (names stamp) rest → all_replies (cond b (a ∷ acts) acts) ≡ filter (names stamp) (r ∷ rest)
-  loud true a r acts rest e is h = ap (λ (rs : List DatagramReply). rs ++ all_replies acts) e ∙ ap (λ (rs : List DatagramReply). r ∷ rs) h ∙ ap (λ (b : Bool). cond b (r ∷ filter (names stamp) rest) (filter (names stamp) rest)) (sym is)
-  loud false a r acts rest e is h = h ∙ ap (λ (b : Bool). cond b (r ∷ filter (names stamp) rest) (filter (names stamp) rest)) (sym is)
-
-pub own_replies : {K : Type 0} → OwnReplies K
-own_replies [] stamp sorted = refl
-own_replies (act.Unread datagram fault ∷ acts) stamp sorted = loud stamp false (act.Unread datagram fault) _ (acts_of stamp acts) (all_replies acts) refl (ap (λ h. is_stamp stamp (stamp_by h)) sorted.0) (own_replies acts stamp sorted.1)
-own_replies (act.Strange of datagram tried why ∷ acts) stamp sorted = loud stamp (bytes_eq of stamp) (act.Strange of datagram tried why) _ (acts_of stamp acts) (all_replies acts) refl (ap (is_stamp stamp) sorted.0) (own_replies acts stamp sorted.1)
-own_replies (act.Refuses of datagram over fault ∷ acts) stamp sorted = loud stamp (bytes_eq of stamp) (act.Refuses of datagram over fault) _ (acts_of stamp acts) (all_replies acts) refl (ap (is_stamp stamp) sorted.0) (own_replies acts stamp sorted.1)
-own_replies (act.Opens of over arbiter ∷ acts) stamp sorted = silent stamp (bytes_eq of stamp) (act.Opens of over arbiter) (acts_of stamp acts) refl ∙ own_replies acts stamp sorted.1
-own_replies (act.Answers of e ∷ acts) stamp sorted = loud stamp (bytes_eq of stamp) (act.Answers of e) _ (acts_of stamp acts) (all_replies acts) refl (ap (is_stamp stamp) sorted.0) (own_replies acts stamp sorted.1)
-own_replies (act.Closes of left ∷ acts) stamp sorted = silent stamp (bytes_eq of stamp) (act.Closes of left) (acts_of stamp acts) refl ∙ own_replies acts stamp sorted.1
+use Rattle.arbiter_server.specs.Laws.{RecordsGoOn}
 
 -- ---- a record through deliveries
 
@@ -157,63 +131,3 @@ module _ {K : Type 0} (s : Keepers K) (t : CommonView) (stamp : List ℕ) where
 
 pub records_go_on : {K : Type 0} (s : Keepers K) → RecordsGoOn s
 records_go_on s t stamp acts at e path d = (delivered s.facts at e (all_own s t stamp Fresh acts (Open at) path tt) d).goes_on
-
--- ---- a game's openings
-
-abbrev asked : List ℕ → List DatagramReply → ℕ
-asked stamp replies = length (filter (opens_this stamp) replies)
-
-at_least : (stamp : List ℕ) (n : ℕ) (r : DatagramReply) (rest : List DatagramReply) → n ≤ asked stamp rest → n ≤ asked stamp (r ∷ rest)
-at_least stamp n r rest h = (elim (opens_this stamp r) as (λ b. n ≤ length (cond b (r ∷ filter (opens_this stamp) rest) (filter (opens_this stamp) rest))) [
-  | true ↦ omega (arith, h)
-  | false ↦ h
-])
-
-module _ {K : Type 0} (stamp : List ℕ) where
-  abbrev openings : List (Action K) → ℕ
-  openings acts = length (filter is_opening (acts_of stamp acts))
-
-  -- with an act that is no opening
-  no_opening : (b : Bool) (a : Action K) (acts : List (Action K)) → is_opening a ≡ false → length (filter is_opening (cond b (a ∷ acts_of stamp acts) (acts_of stamp acts))) ≡ openings acts
-  no_opening true a acts e = ap (λ (x : Bool). length (cond x (a ∷ filter is_opening (acts_of stamp acts)) (filter is_opening (acts_of stamp acts)))) e
-  no_opening false a acts e = refl
-
-  -- with an opening, and a datagram for which games are opened
-  one_opening : (a : Action K) (acts : List (Action K)) (r : DatagramReply) (rest : List DatagramReply) → openings acts ≤ asked stamp rest → length (filter is_opening (a ∷ acts_of stamp acts)) ≤ length (r ∷ filter (opens_this stamp) rest)
-  one_opening a acts r rest h = (elim (is_opening a) as (λ x. length (cond x (a ∷ filter is_opening (acts_of stamp acts)) (filter is_opening (acts_of stamp acts))) ≤ length (r ∷ filter (opens_this stamp) rest)) [
-    | true ↦ omega (arith, h)
-    | false ↦ omega (arith, h)
-  ])
-
-  one_more : (b c : Bool) (a : Action K) (acts : List (Action K)) (r : DatagramReply) (rest : List DatagramReply) → c ≡ true → openings acts ≤ asked stamp rest
-      → length (filter is_opening (cond b (a ∷ acts_of stamp acts) (acts_of stamp acts))) ≤ length (cond (b && c) (r ∷ filter (opens_this stamp) rest) (filter (opens_this stamp) rest))
-  one_more true true a acts r rest e h = one_opening a acts r rest h
-  one_more true false a acts r rest e h = absurd (let wrong : false ≡ true = e in cc)
-  one_more false c a acts r rest e h = h
-
-  still_few : (b : Bool) (a : Action K) (acts : List (Action K)) (rest : List DatagramReply) → is_opening a ≡ false → openings acts ≤ asked stamp rest → length (filter is_opening (cond b (a ∷ acts_of stamp acts) (acts_of stamp acts))) ≤ asked stamp rest
-  still_few b a acts rest e h = subst (λ (n : ℕ). n ≤ asked stamp rest) (sym (no_opening b a acts e)) h
-
-  for_datagram : (a : Action K) (of datagram : List ℕ) (acts : List (Action K)) (r : DatagramReply) (rest : List DatagramReply) → r.datagram ≡ datagram → stamp_for datagram ≡ Some of → opens_for datagram ≡ true → openings acts ≤ asked stamp rest
-      → length (filter is_opening (cond (bytes_eq of stamp) (a ∷ acts_of stamp acts) (acts_of stamp acts))) ≤ asked stamp (r ∷ rest)
-  for_datagram a of datagram acts r rest is sorted opens h =
-      subst (λ (d : List ℕ). length (filter is_opening (cond (bytes_eq of stamp) (a ∷ acts_of stamp acts) (acts_of stamp acts))) ≤ length (cond (is_stamp stamp (stamp_for d) && opens_for d) (r ∷ filter (opens_this stamp) rest) (filter (opens_this stamp) rest))) (sym is)
-      (subst (λ (o : Option (List ℕ)). length (filter is_opening (cond (bytes_eq of stamp) (a ∷ acts_of stamp acts) (acts_of stamp acts))) ≤ length (cond (is_stamp stamp o && opens_for datagram) (r ∷ filter (opens_this stamp) rest) (filter (opens_this stamp) rest))) (sym sorted)
-      (one_more (bytes_eq of stamp) (opens_for datagram) a acts r rest opens h))
-
-pub openings_are_few : {K : Type 0} → OpeningsAreFew K
-openings_are_few [] stamp sorted opened = omega arith
-openings_are_few (act.Unread datagram fault ∷ acts) stamp sorted opened = at_least stamp _ _ (all_replies acts) (openings_are_few acts stamp sorted.1 opened)
-openings_are_few (act.Strange of datagram tried why ∷ acts) stamp sorted opened = at_least stamp _ _ (all_replies acts) (still_few stamp (bytes_eq of stamp) (act.Strange of datagram tried why) acts (all_replies acts) refl (openings_are_few acts stamp sorted.1 opened))
-openings_are_few (act.Refuses of datagram over fault ∷ acts) stamp sorted opened = for_datagram stamp (act.Refuses of datagram over fault) of datagram acts _ (all_replies acts) refl sorted.0 opened.0 (openings_are_few acts stamp sorted.1 opened.1)
-openings_are_few (act.Opens of over arbiter ∷ []) stamp sorted opened = absurd opened.0
-openings_are_few (act.Opens of over arbiter ∷ act.Unread datagram fault ∷ acts) stamp sorted opened = absurd opened.0
-openings_are_few (act.Opens of over arbiter ∷ act.Strange other datagram tried why ∷ acts) stamp sorted opened = absurd opened.0
-openings_are_few (act.Opens of over arbiter ∷ act.Refuses other datagram next fault ∷ acts) stamp sorted opened = absurd opened.0
-openings_are_few (act.Opens of over arbiter ∷ act.Opens other next later ∷ acts) stamp sorted opened = absurd opened.0
-openings_are_few (act.Opens of over arbiter ∷ act.Closes other left ∷ acts) stamp sorted opened = absurd opened.0
-openings_are_few (act.Opens of over arbiter ∷ act.Answers other e ∷ acts) stamp sorted opened =
-    for_datagram stamp (act.Opens of over arbiter) of e.datagram (act.Answers other e ∷ acts) _ (all_replies acts) refl (sorted.1.0 ∙ ap Some opened.0.0) opened.0.1
-    (still_few stamp (bytes_eq other stamp) (act.Answers other e) acts (all_replies acts) refl (openings_are_few acts stamp sorted.1.1 opened.1))
-openings_are_few (act.Answers of e ∷ acts) stamp sorted opened = at_least stamp _ _ (all_replies acts) (still_few stamp (bytes_eq of stamp) (act.Answers of e) acts (all_replies acts) refl (openings_are_few acts stamp sorted.1 opened))
-openings_are_few (act.Closes of left ∷ acts) stamp sorted opened = still_few stamp (bytes_eq of stamp) (act.Closes of left) acts (all_replies acts) refl (openings_are_few acts stamp sorted.1 opened)

@@ -5,6 +5,3 @@ use Rattle.move_msg.specs.TextLines.{ended}
 pub ends_behind : (a b line words : List ℕ) → words ≡ ended line → (a ++ b) ++ words ≡ ended (a ++ b ++ line)
 ends_behind a b line words is =
     ap (λ (l : List ℕ). (a ++ b) ++ l) is ∙ sym (append_assoc (a ++ b) line (10 ∷ []))
-
-pub one_behind : (a line words : List ℕ) → words ≡ ended line → a ++ words ≡ ended (a ++ line)
-one_behind a line words is = ap (λ (l : List ℕ). a ++ l) is ∙ sym (append_assoc a line (10 ∷ []))

@@ -6,18 +6,14 @@ use Rattle.std.proofs.lemmas.Bool.{cases_eq, eq-eqb}
 use Rattle.std.proofs.lemmas.Bool.Decides.{Decides-eqb}
 use Rattle.std.proofs.lemmas.List.{length-set, get_or-set_same, get_or-set_other}
 use Rattle.std.proofs.lemmas.Slice.Eq.{bytes_eq-Decides}
-use Rattle.std.specs.Prelude.{Result, Ok}
 use Rattle.std.specs.Int.{is_power_of_two}
 use Rattle.move_msg.specs.TextLines.{ended}
-use Rattle.system_io.specs.declared.output.WriteFault.{WriteFault}
 use Rattle.arbiter_server.specs.declared.last_lines.LastLines.{LastLines}
 use Rattle.arbiter_server.specs.declared.line_log.LineLog.{LineLog}
 use Rattle.arbiter_server.specs.declared.line_log.LineLog.TheVariants as logs
 use Rattle.arbiter_server.specs.declared.line_log.LogForm.{LogForm}
 use Rattle.arbiter_server.specs.declared.line_log.LogForm.TheVariants as form
-use Rattle.arbiter_server.specs.GoingOut.{GoOut, LinesEnd, Writers}
-use Rattle.arbiter_server.specs.LineLogs.{LogsLine, PicksChange, PicksLine, Remembers, RemembersAll, form_of, is_line_kind, kind_count, last_at, line_kind, line_with_count, most, one_more_line, picked, picked_by, picked_text, remembered_place}
-use Rattle.arbiter_server.proofs.GoingLaws.{none_out}
+use Rattle.arbiter_server.specs.LineLogs.{PicksChange, PicksLine, Remembers, RemembersAll, form_of, is_line_kind, kind_count, last_at, line_kind, line_with_count, most, one_more_line, picked, picked_by, picked_text, remembered_place}
 use Rattle.arbiter_server.specs.Remembering.{Remembered}
 
 -- a number counted on, of which no more than the most is kept
@@ -177,40 +173,3 @@ picks_nothing before log line is = record {
   after = subst (λ (l : LineLog). Remembers l (ended line ∷ before)) (sym is) tt;
   same = refl;
 }
-
--- ---- what is told
-
--- of these lines there is one at most
-abbrev pub IsOne : List (List ℕ) → Type 0
-IsOne [] = Unit {0}
-IsOne (line ∷ []) = Unit {0}
-IsOne (line ∷ (other ∷ lines)) = ⊥
-
-one_if : (t : Bool) (line : List ℕ) → IsOne (cond t [] (line ∷ [])) × IsOne (cond t (line ∷ []) [])
-one_if true line = (tt, tt)
-one_if false line = (tt, tt)
-
-one_picked : (form : LogForm) (before : List (List ℕ)) (line : List ℕ) → IsOne (picked form before line)
-one_picked form.All before line = tt
-one_picked form.Nothing before line = tt
-one_picked form.Changes before line = by_kind (line_kind (ended line)) where
-  by_kind : (kind : Option ℕ) → IsOne (picked_by before line kind)
-  by_kind None = (one_if (bytes_eq (last_at (remembered_place (ended line)) before) (ended line)) line).0
-  by_kind (Some kind) = (one_if (is_power_of_two (one_more_line (min (kind_count kind before) most))) (line_with_count line (one_more_line (min (kind_count kind before) most)))).1
-
-module _ {W T : Type 0} (w : Writers W) (before : List (List ℕ)) (old new : LineLog) (line : List ℕ) (out out' : W) (r : Result T WriteFault) where
-  -- nothing is picked
-  none_told : (picks : List (List ℕ)) → IsOne picks → None ≡ picked_text picks → GoOut w out picks out
-  none_told [] one is = none_out w out
-  none_told (l ∷ ls) one is = absurd (let f : None ≡ Some (ended l) = is in cc)
-
-  pub tells_none : (x : T) → PicksLine before old new line None → LogsLine w before old new line out out (Ok x)
-  tells_none x picks = record { lines = none_told (picked (form_of old) before line) (one_picked (form_of old) before line) picks.is; after = picks.after; same = picks.same }
-
-  one_told : (text : List ℕ) (picks : List (List ℕ)) → IsOne picks → Some text ≡ picked_text picks → ((l : List ℕ) → text ≡ ended l → LinesEnd w out (l ∷ []) out' r) → LinesEnd w out picks out' r
-  one_told text [] one is out_so = absurd (let f : Some text ≡ None = is in cc)
-  one_told text (l ∷ []) one is out_so = out_so l (let f : Some text ≡ Some (ended l) = is in cc)
-  one_told text (l ∷ (other ∷ ls)) one is out_so = absurd one
-
-  pub tells_one : (text : List ℕ) → PicksLine before old new line (Some text) → ((l : List ℕ) → text ≡ ended l → LinesEnd w out (l ∷ []) out' r) → LogsLine w before old new line out out' r
-  tells_one text picks out_so = record { lines = one_told text (picked (form_of old) before line) (one_picked (form_of old) before line) picks.is out_so; after = picks.after; same = picks.same }

@@ -17,7 +17,7 @@ use Rattle.arbiter_core.specs.declared.fault.DeliverFault.TheVariants.{Down, Ill
 use Rattle.arbiter_core.specs.Recording.{Recorded, ReorderBuffer, advance, last_ply, move_count}
 use Rattle.arbiter_core.specs.Answering.{Answer, Identity, Puts, Refuses, Sends, answer_heard, answer_to, answer_to_move, puts, sent_by, told_now, told_of, waits_too}
 use Rattle.arbiter_core.proofs.Cases.{at_turn, in_window, not_long, not_old}
-use Rattle.arbiter_server.specs.OverFiles.{GoesOn}
+use Rattle.arbiter_server.specs.Lives.{GoesOn}
 
 -- ---- records that go on
 

@@ -1,3 +1,2 @@
 -- What functions find on the way; cited by private clauses alone.
-pub mod Steps
 pub mod ValueLines

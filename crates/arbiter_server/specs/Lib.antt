@@ -1,8 +1,5 @@
-pub mod StoredBytes
 pub mod ServedLines
-pub mod GoingOut
 pub mod Serving
-pub mod OverFiles
 pub mod Lives
 pub mod Inside
 pub mod GameFiles
@@ -17,8 +14,5 @@ pub mod Rounds
 pub mod Hosts
 pub mod StoreGames
 pub mod Laws
-pub mod Seats
-pub mod Servers
 pub mod Remembering
 pub mod LineLogs
-pub mod Turns

@@ -1,15 +1,13 @@
 -- Which lines of a server are written (this project's own). A text is that of a line, with its line feed.
-use Rattle.std.specs.Prelude.{◌≡◌, ◌+◌, ◌-◌, ◌*◌, ◌%◌, ◌^◌, ◌<◌, ◌++◌, ◌&&◌, ◌==◌, ltb, ℕ, Bool, false, cond, min, List, [], ◌∷◌, Option, Some, None, is_none, codes, drop, length, get_or, Result}
+use Rattle.std.specs.Prelude.{◌≡◌, ◌+◌, ◌-◌, ◌*◌, ◌%◌, ◌^◌, ◌<◌, ◌++◌, ◌&&◌, ◌==◌, ltb, ℕ, Bool, false, cond, min, List, [], ◌∷◌, Option, Some, None, is_none, codes, drop, length, get_or}
 use Rattle.std.specs.Fmt.{decimal}
 use Rattle.std.specs.Str.{bytes_eq}
 use Rattle.std.specs.Int.{is_power_of_two}
 use Rattle.move_msg.specs.TextLines.{ended}
-use Rattle.system_io.specs.declared.output.WriteFault.{WriteFault}
 use Rattle.arbiter_server.specs.declared.line_log.LineLog.{LineLog}
 use Rattle.arbiter_server.specs.declared.line_log.LineLog.TheVariants as log
 use Rattle.arbiter_server.specs.declared.line_log.LogForm.{LogForm}
 use Rattle.arbiter_server.specs.declared.line_log.LogForm.TheVariants as form
-use Rattle.arbiter_server.specs.GoingOut.{LinesEnd, Writers}
 use Rattle.arbiter_server.specs.Remembering.{Remembered}
 
 -- ---- whose a line is
@@ -133,12 +131,6 @@ pub record PicksLine (before : List (List ℕ)) (old new : LineLog) (line : List
 pub record PicksChange (before : List (List ℕ)) (new : Remembered) (line : List ℕ) (text : Option (List ℕ)) : Type 0 where
   pub is : text ≡ picked_text (picked form.Changes before line)
   pub after : RemembersAll new (ended line ∷ before)
-
--- of one line after these texts what is picked goes out, and it is remembered
-pub record LogsLine {W T : Type 0} (w : Writers W) (before : List (List ℕ)) (old new : LineLog) (line : List ℕ) (out out' : W) (r : Result T WriteFault) : Type 0 where
-  pub lines : LinesEnd w out (picked (form_of old) before line) out' r
-  pub after : Remembers new (ended line ∷ before)
-  pub same : form_of new ≡ form_of old
 
 -- a log of this form that knows of no line yet
 pub record IsLogOf (form : LogForm) (log : LineLog) : Type 0 where

@@ -1,5 +1,5 @@
 -- What a host tells of a datagram (this project's own).
-use Rattle.std.specs.Prelude.{ℕ, List, ◌++◌, Option, Some, None, codes}
+use Rattle.std.specs.Prelude.{ℕ, List, ◌++◌, codes}
 use Rattle.std.specs.Fmt.{decimal}
 use Rattle.hex.specs.Hex.{encode_lower}
 use Rattle.arbiter_core.specs.declared.fault.OpenFault.{OpenFault}
@@ -38,17 +38,3 @@ line_words (line.Unread fault) = codes "- " ++ refused_datagram (NotAMessage fau
 line_words line.PortLost = refused_port
 line_words line.StoreLost = refused_store
 line_words line.MemoryLost = refused_memory
-
--- the game that a line is of, if it is of one
-abbrev pub stamp_in_line : Line → Option (List ℕ)
-stamp_in_line (line.Answered stamp heard) = Some stamp
-stamp_in_line (line.Unopened stamp why) = Some stamp
-stamp_in_line (line.Unread fault) = None
-stamp_in_line line.PortLost = None
-stamp_in_line line.StoreLost = None
-stamp_in_line line.MemoryLost = None
-
--- what is told in place of these words of a datagram of a game, whose answer is withheld since memory was refused
-abbrev pub withheld_words : Option (List ℕ) → List ℕ → List ℕ
-withheld_words (Some stamp) words = stamped stamp (unopened_words unopened.OutOfMemory)
-withheld_words None words = words

@@ -1,10 +1,5 @@
 //! Why a game isn't open, and why what games keep isn't committed.
 
-ghost use Rattle.std.specs.Prelude.{◌≡◌};
-ghost use Rattle.arbiter_server.specs.Told.{unopened_by};
-
-use arbiter_core::OpenFault;
-
 /// Why a game isn't open.
 #[derive(Clone, Copy)]
 pub enum OpenGameError {
@@ -31,19 +26,4 @@ pub enum Uncommitted {
     NotNoted,
     /// Memory was refused to commit it. It stays noted, and may be committed later.
     OutOfMemory,
-}
-
-impl OpenGameError {
-    /// What is told of a game whose arbiter can't be opened.
-    pub(crate) fn by(fault: OpenFault) -> OpenGameError
-        ensures { result ≡ unopened_by fault }
-    {
-        match fault {
-            OpenFault::OtherStamp => OpenGameError::OtherGame,
-            OpenFault::OutOfMemory => OpenGameError::OutOfMemory,
-            OpenFault::BadSetup | OpenFault::KeeperFailed | OpenFault::BadRecord => {
-                OpenGameError::Keeper
-            }
-        }
-    }
 }

@@ -5,7 +5,7 @@ ghost use Rattle.arrayvec.specs.ArrayVec.{array_vec_len};
 ghost use Rattle.hex.specs.Hex.{encode_lower};
 ghost use Rattle.move_msg.specs.TextLines.{ended};
 ghost use Rattle.arbiter_server.specs.LineLogs.{common, line_kind, place_in};
-ghost use Rattle.arbiter_server.specs.Told.{line_words, stamp_in_line, stamped, unopened_words, withheld_words};
+ghost use Rattle.arbiter_server.specs.Told.{line_words, stamped, unopened_words};
 
 use crate::datagram_report::DatagramReport;
 use crate::fault::OpenGameError;
@@ -162,18 +162,6 @@ impl Line {
             Line::Unopened(stamp, why) => unopened_kind(stamp, why),
             Line::Unread(fault) => Some(unread_kind(fault)),
             Line::PortLost | Line::StoreLost | Line::MemoryLost => None,
-        }
-    }
-
-    /// What is told of a datagram whose answer is withheld, since memory was refused to commit what its game keeps.
-    pub fn withheld(self) -> Line
-        ensures { line_words result ≡ withheld_words (stamp_in_line self) (line_words self) }
-    {
-        match self {
-            Line::Answered(stamp, _) | Line::Unopened(stamp, _) => {
-                Line::Unopened(stamp, OpenGameError::OutOfMemory)
-            }
-            Line::Unread(_) | Line::PortLost | Line::StoreLost | Line::MemoryLost => self,
         }
     }
 

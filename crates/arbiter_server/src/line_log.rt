@@ -2,15 +2,12 @@
 
 ghost use Rattle.std.specs.Prelude.{◌≡◌, ◌<◌, List, ℕ, IfOk, Some, None, option_map};
 ghost use Rattle.move_msg.specs.TextLines.{ended};
-ghost use Rattle.arbiter_server.specs.GoingOut.{writers};
-ghost use Rattle.arbiter_server.specs.LineLogs.{IsLogOf, LogsLine, PicksChange, PicksLine, Remembers, RemembersAll, line_kind};
+ghost use Rattle.arbiter_server.specs.LineLogs.{IsLogOf, PicksChange, PicksLine, Remembers, RemembersAll, line_kind};
 ghost use Rattle.arbiter_server.specs.Told.{line_words};
 
 use crate::last_lines::{LastLines, LoggedText, counted, logged};
 use crate::line::Line;
-use crate::serving::put_line;
 use std::alloc::{AllocError, Global};
-use system_io::{Output, WriteFault};
 
 /// Which lines of a server are written.
 #[derive(Clone, Copy, PartialEq, Eq, Debug)]
@@ -95,16 +92,6 @@ impl LineLog {
             LineLog::All => Some(logged(&line.text())),
             LineLog::Nothing => None,
             LineLog::Changes(lines) => pick_change(lines, line),
-        }
-    }
-
-    /// Writes a line where it is one that is written, and lets it go out at once.
-    pub(crate) fn tell<W: Output>(&mut self, out: &mut W, line: Line) -> Result<(), WriteFault>
-        ensures { (before : List (List ℕ)) → Remembers self.old before → LogsLine (writers W.Write.contents W.facts) before self.old self.new (line_words line) out.old out.new result }
-    {
-        match self.pick(line) {
-            Some(text) => put_line(out, text.as_slice()),
-            None => Ok(()),
         }
     }
 }

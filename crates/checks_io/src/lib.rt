@@ -3,7 +3,7 @@
 //! Bytes, datagrams and calls that fail go in, over the instances in memory of `system_fakes` and over the system's own files and
 //! sockets; a test comes to its end, or it ends the process where what was kept or sent is another thing.
 //!
-//! - `calls_tests`, `file_keeper_tests`: files in memory that fail and lose power
+//! - `calls_tests`, `disk_file_tests`: files in memory that fail and lose power
 //! - `kept_tests`: the system's files
 //! - `loop_tests`: connections over streams in memory
 //! - `mode_tests`: files with their modes, in memory and of the system

@@ -2,7 +2,7 @@
 
 mod calls_tests;
 mod comparing;
-mod file_keeper_tests;
+mod disk_file_tests;
 mod kept_tests;
 mod loop_tests;
 mod mode_tests;

@@ -50,6 +50,10 @@ IsFound rules stamp bytes (found.BadVerdict verdict) =
     IsBadKept rules stamp bytes opening.BadRecord
     × ((r : Records) × SpellsRecord bytes r × IsOfGame rules stamp r × EndsWithVerdict rules r.moves verdict × (r.verdict ≢ verdict))
 
+-- what is found of the bytes that spell a record
+abbrev pub IsFoundOf : Rules → Records → Finding → Type 0
+IsFoundOf rules kept finding = (bytes : List ℕ) → SpellsRecord bytes kept → IsFound rules kept.stamp bytes finding
+
 abbrev pub is_whole : Finding → Bool
 is_whole (found.Whole count verdict) = true
 is_whole (found.BadRecord fault) = false

@@ -7,7 +7,7 @@ ghost use Rattle.move_msg.specs.Records.{SpellsRecord};
 ghost use Rattle.judge_core.specs.Standings.{ListsMovesInGame};
 ghost use Rattle.arbiter_core.specs.Opens.{IsBadKept, IsOfGame};
 ghost use Rattle.arbiter_core.specs.declared.fault.OpenFault.TheVariants as OpenFault;
-ghost use Rattle.record_audit.specs.Findings.{AreCompared, AreOfOneGame, IsComparison, IsFound, agree, is_whole};
+ghost use Rattle.record_audit.specs.Findings.{AreCompared, AreOfOneGame, IsComparison, IsFound, IsFoundOf, agree, is_whole};
 ghost use Rattle.record_audit.specs.Findings.{IsAuditedAs, IsOfRecord, rules_of, rules_with};
 ghost use Rattle.record_audit.specs.Inside.Auditing.{ArePartedAt, EndsPart, IsFoundBy, IsHeldTo, PartsAfter};
 
@@ -122,7 +122,7 @@ pub fn judge_moves(
     kept: &Record,
 ) -> Result<Finding, AllocError>
     requires { kept.now.delay ≤ most_delay }
-    ensures found { IfOk result (λ finding. (bytes : List ℕ) → SpellsRecord bytes kept.now → IsFound (rules_with start.now set.old.tables kept.now) kept.now.stamp bytes finding) }
+    ensures found { IfOk result (IsFoundOf (rules_with start.now set.old.tables kept.now) kept.now) }
     ensures own { IfOk result (IsOfRecord kept.now) }
     ensures memory { OnErr result (ListsMovesInGame (rules_with start.now set.old.tables kept.now) kept.now.moves) }
     ensures same { set.new ≡ set.old }

@@ -11,7 +11,7 @@ use Rattle.arbiter_core.proofs.Growing.{puts_grow}
 use Rattle.arbiter_server.proofs.Telling.{AllTell, on_and_on, still_on}
 use Rattle.arbiter_server.specs.Acts.{Action, Opening, Unread, Strange, Refuses, Opens, Answers, Closes}
 use Rattle.arbiter_server.specs.Games.{AnswersTo, ClosesTo, CommonView, Fresh, Goes, GoesByAct, IsOver, Open, OpensTo, Shut, life_after}
-use Rattle.arbiter_server.specs.OverFiles.{GoesOn}
+use Rattle.arbiter_server.specs.Lives.{GoesOn}
 use Rattle.arbiter_server.specs.Serving.{outputs_of}
 use Rattle.move_msg.specs.declared.stamp.Stamp.{Stamp}
 use Rattle.game_folder.specs.Holdings.{GamesFacts}

@@ -30,8 +30,7 @@ use Rattle.arbiter_server.proofs.FoundLaws.{own_whole}
 use Rattle.arbiter_server.proofs.OpenedLaws.{good_unless}
 use Rattle.arbiter_server.proofs.Telling.{AllTell, IsHonest, answer_honest, on_and_on, still_on}
 use Rattle.arbiter_server.proofs.Turns.{GoesFrom, goes_nowhere}
-use Rattle.arbiter_server.specs.Lives.{StillHolds}
-use Rattle.arbiter_server.specs.OverFiles.{GoesOn}
+use Rattle.arbiter_server.specs.Lives.{GoesOn, StillHolds}
 use Rattle.arbiter_server.specs.Serving.{outputs_of}
 use Rattle.served_games.specs.Lasting.{IsToBePut}
 use Rattle.served_games.specs.PlaceKeepers.{Follows, PlaceKeeper, has_failed, has_put, place_facts}

@@ -9,8 +9,7 @@ use Rattle.arbiter_core.specs.Setups.{SetupView}
 use Rattle.arbiter_core.specs.Views.{View, spelled_as}
 use Rattle.arbiter_server.specs.Acts.{Action, Unread, Strange, Refuses, Opens, Answers, Closes}
 use Rattle.arbiter_server.specs.Games.{CommonView, Fresh, GameStatus, Goes, IsNotOpen, Open, Shut}
-use Rattle.arbiter_server.specs.Lives.{StillHolds}
-use Rattle.arbiter_server.specs.OverFiles.{GoesOn, IsItsRecord}
+use Rattle.arbiter_server.specs.Lives.{GoesOn, IsItsRecord, StillHolds}
 use Rattle.arbiter_server.specs.Serving.{outputs_of}
 use Rattle.move_msg.specs.Records.{WritesRecord}
 use Rattle.game_folder.specs.Holdings.{GamesFacts}

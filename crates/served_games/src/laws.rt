@@ -1,5 +1,6 @@
 //! Laws over the definitions of `game_server`.
 
+ghost use Rattle.arbiter_server.specs.Laws.{RecordsGoOn};
 ghost use Rattle.game_folder.specs.FolderGames.{folder_games_facts};
 ghost use Rattle.game_folder.specs.OneGame.{one_game_facts};
 ghost use Rattle.served_games.specs.Durable.{GamesAreFound, KeepsAtOnce, RunsLast};
@@ -9,6 +10,7 @@ ghost use Rattle.served_games.specs.FolderStores.{StoreGamesAreLed, StoreGamesKe
 ghost use Rattle.served_games.specs.InOrder.{StoreCommitsAreFound, StoreGamesAreTaken, StoreKeepsInOrder};
 ghost use Rattle.served_games.specs.Lasting.{EachLasts};
 ghost use Rattle.served_games.specs.OneGames.{OneGameKeepsWhatItTold};
+ghost use Rattle.served_games.specs.PlaceKeepers.{place_keepers};
 ghost use Rattle.served_games.specs.ServedGames.{GamesArePlayed, PlayedAreHosted};
 ghost use Rattle.served_games.specs.StoreHistories.{StoresAreDurable};
 ghost use Rattle.served_games.specs.StoreRuns.{StoreRunsAreLed, StoreRunsAreTold};
@@ -24,6 +26,11 @@ pub fn games_are_played<S: System, G: Games<S>>(_system: &S)
 /// The acts of a game that is played so are those of a host.
 pub fn played_are_hosted<S: System, G: Games<S>>(_system: &S)
     ensures { PlayedAreHosted (G.facts _system.now) }
+{}
+
+/// At each moment of a game that is played so the next delivery leaves the record as it was, or adds moves to it.
+pub fn records_go_on<S: System, G: Games<S>>(_system: &S)
+    ensures { (place : (G.facts _system.now).Place) → RecordsGoOn (place_keepers (G.facts _system.now) place) }
 {}
 
 /// After any runs of a server, wherever each of them stopped, whatever a start finds of a game is a record in which all is that each answer

@@ -25,7 +25,7 @@
 //! - CLAIM: `laws::games_are_played`; `laws::played_are_hosted`: in a run each game has its own acts, from where it was to where it is; for each
 //!   datagram of the game they have its reply, and the events that were made for it. They go on from one another as those of a host, where each
 //!   opening is over what was left. A game that memory was refused to keep open was opened, and closed at once; the reply is that of one that
-//!   isn't open.
+//!   isn't open. `laws::records_go_on`: each delivery leaves the game's record, or adds to it.
 //! - CLAIM: `laws::games_are_found`: where records are put at once and are durable, each opening is over what was left, and whatever a start may
 //!   find behind a run is what the game keeps or left.
 //! - CLAIM: `laws::folder_games_keep_at_once`, `one_game_keeps_at_once`: the games of a folder, and one game, put each record in its file at once;

@@ -46,6 +46,10 @@ IsBelieved plies position r = (r.ply < plies → IsMate r.verdict → ⊥) × (r
 abbrev pub AreBelieved : ℕ → Parts → Known → Type 0
 AreBelieved plies position known = IfSome known.a.ruling (IsBelieved plies position) × IfSome known.b.ruling (IsBelieved plies position)
 
+-- this verdict is known, and isn't believed
+abbrev pub IsKnownBelied : ℕ → Parts → Known → Ruling → Type 0
+IsKnownBelied plies position known r = ((known.a.ruling ≡ Some r) ⊎ (known.b.ruling ≡ Some r)) × (IsBelieved plies position r → ⊥)
+
 -- both have reported this verdict, and no other was reported; and it is believed
 abbrev pub IsBelievedRuling : Stamp → ℕ → Parts → Ruling → List Passing → Type 0
 IsBelievedRuling stamp plies position r all = IsRuled stamp r all × IsBelieved plies position r

@@ -1,7 +1,7 @@
 //! The source's own board, by which it believes a reported mate or not.
 
 ghost use Rattle.std.specs.Prelude.{◌≡◌, ◌↔◌, ◌⊎◌, IsTrue, Some, IfSome, IfNone};
-ghost use Rattle.source_core.specs.Boards.{AreBelieved, IsBelieved, IsMate, IsShown};
+ghost use Rattle.source_core.specs.Boards.{AreBelieved, IsBelieved, IsKnownBelied, IsMate, IsShown};
 
 use crate::known::Known;
 use crate::report::Ruling;
@@ -76,7 +76,7 @@ impl<'a> Board<'a> {
 
     /// A verdict that an arbiter has reported and that isn't believed, if there is one.
     pub(crate) fn belied_in(self, known: &Known) -> Option<Ruling>
-        ensures some { IfSome result (λ r. ((known.now.a.ruling ≡ Some r) ⊎ (known.now.b.ruling ≡ Some r)) × (IsBelieved self.entry.plies self.entry.position.now r → ⊥)) }
+        ensures some { IfSome result (IsKnownBelied self.entry.plies self.entry.position.now known.now) }
         ensures none { IfNone result (AreBelieved self.entry.plies self.entry.position.now known.now) }
     {
         match self.belies(known.a.ruling) {

@@ -261,7 +261,7 @@ impl DiskFile {
     fn give_name(&mut self) -> io::Result<()>
         ensures renamed { OnOk result ((bytes : List ℕ) → HoldsSynced self.old.beside bytes → HoldsSynced self.new.stands bytes) }
         ensures name { OnOk result (self.new.is_name_lost ≡ false) }
-        ensures either { (old : Option (List ℕ)) (bytes : List ℕ) → LeavesOneOf self.old old old → HoldsSynced self.old.beside bytes → LeavesOneOf self.new old (Some bytes) }
+        ensures either { (old : Option _) (bytes : _) → LeavesOneOf self.old old old → HoldsSynced self.old.beside bytes → LeavesOneOf self.new old (Some bytes) }
         ensures count { Counts result self.old.failures self.new.failures }
     {
         match self.beside.take() {

@@ -65,6 +65,10 @@ abbrev pub sent_to : Option SocketAddr → List ℕ → List SocketCall
 sent_to None bytes = []
 sent_to (Some address) bytes = Sent address bytes ∷ []
 
+-- bytes for the one at a place
+abbrev pub sent_at : Option SocketAddr → List Addressed → ℕ → List ℕ → List SocketCall
+sent_at sender to place bytes = sent_to (address_named sender (who_at to place)) bytes
+
 -- bytes for each of those that are named, once and in their order
 unfoldable pub sent_to_each : Option SocketAddr → List Recipient → List ℕ → List SocketCall
 sent_to_each sender [] bytes = []

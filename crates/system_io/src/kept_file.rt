@@ -68,7 +68,7 @@ pub trait KeptFile {
     /// also where this fails, and a synced file is complete.
     fn rename(&mut self) -> io::Result<()>
         ensures renamed { OnOk result ((bytes : List ℕ) → (facts self.old).reached Synced bytes → (facts self.new).reached Renamed bytes) }
-        ensures either { (old : Option (List ℕ)) (bytes : List ℕ) → (facts self.old).finds old old → (facts self.old).reached Synced bytes → (facts self.new).finds old (Some bytes) }
+        ensures either { (old : _) (bytes : _) → (facts self.old).finds old old → (facts self.old).reached Synced bytes → (facts self.new).finds old (Some bytes) }
         ensures count { Counts result (facts self.old).faults (facts self.new).faults };
 
     /// Syncs the folder, and with it the new name.

@@ -4,9 +4,8 @@ ghost use Rattle.std.specs.Prelude.{◌≡◌, ◌≢◌, ◌≤◌, ◌<◌, �
 ghost use Rattle.system_io.specs.Failures.{Counts, Risen};
 ghost use Rattle.system_io.specs.Histories.{Passes};
 ghost use Rattle.system_io.specs.Places.{IsBound, ListensAt};
-ghost use Rattle.system_io.specs.Recipients.{address_named};
 ghost use Rattle.system_io.specs.Sockets.{Sent};
-ghost use Rattle.system_io.specs.UdpPorts.{Hears, HearsNothing, HearsOrNothing, passed_on, sent_to, udp_facts, who_at};
+ghost use Rattle.system_io.specs.UdpPorts.{Hears, HearsNothing, HearsOrNothing, passed_on, sent_at, udp_facts};
 
 use crate::notes::Notes;
 use crate::port::{NO_TAG, Port, PortFault};
@@ -258,7 +257,7 @@ impl<'a, C: Clock, S: Socket + Drop, W: Write + Drop> UdpPort<'a, C, S, W> {
     /// came yet.
     fn send_one(&mut self, place: usize, bytes: &[u8]) -> Result<(), PortFault>
         requires { place < length self.old.to.items }
-        ensures calls { Passes (S.calls self.old.socket) (S.calls self.new.socket) (sent_to (address_named self.old.sender (who_at self.old.to.items place)) bytes.now) }
+        ensures calls { Passes (S.calls self.old.socket) (S.calls self.new.socket) (sent_at self.old.sender self.old.to.items place bytes.now) }
         ensures sender { self.new.sender ≡ self.old.sender }
         ensures same { self.new.to ≡ self.old.to }
         ensures count { self.old.failures ≤ self.new.failures }

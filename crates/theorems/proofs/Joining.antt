@@ -1,7 +1,6 @@
 -- Two hosts of one game come to a world of a schedule.
 use Rattle.std.proofs.Common.{◌≡◌, ◌∙◌, ℕ, List, [], ◌∷◌, ◌++◌, refl, sym, subst}
 use Rattle.std.specs.List.{AllByRecursion}
-use Rattle.std.proofs.lemmas.List.Elements.{filter-append}
 use Rattle.move_msg.specs.declared.arbiter_id.ArbiterId.{ArbiterId}
 use Rattle.move_msg.specs.declared.arbiter_id.ArbiterId.TheVariants.{A, B}
 use Rattle.arbiter_server.specs.Folders.{Keepers}
@@ -14,7 +13,7 @@ use Rattle.relay_world.specs.Worlds.{Judged, listed}
 use Rattle.theorems.specs.Nets as nets
 use Rattle.theorems.specs.Nets.{SystemState, Site, first_net, site_of}
 use Rattle.theorems.proofs.Netting.{arbiters_are_worlds, arbiters_tell_the_truth}
-use Rattle.theorems.specs.Interleavings.{AreWoven, AtA, AtB, HostEvent, Asks, Does, Ends, FrontsAreRuns, GivesFor, GivesIf, HostsAreWorlds, HostsTellTheTruth, IsHostOf, IsRunOfHost, IsSiteOfLife, StandsAt, Step, TellsTheTruth, Interleaving, deeds_a, deeds_b, first_run, last_among, last_run, later_runs}
+use Rattle.theorems.specs.Interleavings.{AreWoven, AtA, AtB, HostEvent, Asks, Does, Ends, GivesFor, GivesIf, HostsAreWorlds, HostsTellTheTruth, IsHostOf, IsRunOfHost, IsSiteOfLife, StandsAt, Step, TellsTheTruth, Interleaving, deeds_a, deeds_b, first_run, last_among, last_run, later_runs}
 use Rattle.theorems.proofs.Seeing.{Seen, seen_facts}
 use Rattle.theorems.proofs.Weaving.{Moves, NetGoes, act_goes}
 use Rattle.theorems.proofs.Stopping.{stop_goes}
@@ -48,18 +47,6 @@ module _ {K : Type 0} (s : Keepers K) (stamp : List ℕ) where
   one_end old [] x y t u h k = h ∙ sym k
   one_end old (a ∷ acts) x y t u h k =
       one_end k.0 acts x y t u (subst (λ l. Goes s t stamp l acts x) (one_life t u old h.0 k.0 a h.1 k.1) h.2) k.2
-
-goes_front : {K : Type 0} (s : Keepers K) (t : CommonView) (stamp : List ℕ) (early late : List (Action K)) (old new : GameStatus K) → Goes s t stamp old (early ++ late) new → (mid : GameStatus K) × Goes s t stamp old early mid
-goes_front s t stamp [] late old new g = (old, refl)
-goes_front s t stamp (a ∷ early) late old new g = let front = goes_front s t stamp early late g.0 new g.2 in (front.0, (g.0, g.1, front.1))
-
-pub fronts_are_runs : {K : Type 0} (s : Keepers K) → FrontsAreRuns s
-fronts_are_runs {K = K} s game who common acts rest of hosted =
-    let split : acts_of game.stamp (acts ++ rest) ≡ acts_of game.stamp acts ++ acts_of game.stamp rest = filter-append (λ (a : Action K). is_stamp game.stamp (game_of a)) acts rest in
-    let all : Goes s common game.stamp Fresh (acts_of game.stamp acts ++ acts_of game.stamp rest) (hosted.games game.stamp) =
-    subst (λ (run : List (Action K)). Goes s common game.stamp Fresh run (hosted.games game.stamp)) split (hosted.each game.stamp) in
-    let front = goes_front s common game.stamp (acts_of game.stamp acts) (acts_of game.stamp rest) Fresh (hosted.games game.stamp) all in
-    record { common = common; of = of; life = front.0; goes = front.1 }
 
 -- ---- the runs of one host
 

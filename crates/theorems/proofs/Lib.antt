@@ -4,9 +4,6 @@ pub mod Weaving
 pub mod Stopping
 pub mod Joining
 pub mod Acking
-pub mod Filing
-pub mod Listening
-pub mod FileWeaving
 pub mod Storing
 pub mod StoreKeeping
 pub mod StoreWeaving

@@ -30,8 +30,7 @@ use Rattle.served_games.specs.Durable.{left_before}
 use Rattle.served_games.specs.Lasting.{left_by}
 use Rattle.served_games.specs.PlaceKeepers.{Follows, PlaceKeeper, found_keeper, has_failed, has_put, place_facts, place_keepers}
 use Rattle.served_games.specs.ServedGames.{IsOverLeft, life_by}
-use Rattle.theorems.specs.FileWeaves.{sent_by_act}
-use Rattle.theorems.specs.Interleavings.{AtA, AtB, HostEvent, Asks, Does, Ends, GivesFor, GivesIf, GivesOwn, Interleaving, IsHostOf, IsRunOfHost, Step, closed_with, deeds_a, deeds_b, first_run, later_runs, open_with}
+use Rattle.theorems.specs.Interleavings.{AtA, AtB, HostEvent, Asks, Does, Ends, GivesFor, GivesIf, GivesOwn, Interleaving, IsHostOf, IsRunOfHost, Step, closed_with, deeds_a, deeds_b, first_run, later_runs, open_with, sent_by_act}
 use Rattle.theorems.specs.Nets.{FoundAnswered, FoundOpened, IsNoForgery, IsToBePut, Site, SystemState, changed, first_net, sent_with, site_of}
 use Rattle.theorems.specs.ServedWeaves.{ActsIf, ActsOver, BothHeld, GoBoth, GoesOver, Held, IsFoundAt, IsFoundIn, IsOpenNow, ServedAreWoven, first_both, held_after, held_if, sent_in}
 use Rattle.theorems.proofs.Serving.{opens_up}

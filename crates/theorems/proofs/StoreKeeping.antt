@@ -19,8 +19,8 @@ use Rattle.arbiter_server.specs.Rounds.{EndSent, Round, replies_of_rounds}
 use Rattle.arbiter_server.specs.Serving.{outputs_of}
 use Rattle.arbiter_server.specs.StoreGames.{store_finds, store_keepers}
 use Rattle.arbiter_server.proofs.Telling.{AllTell}
-use Rattle.theorems.specs.HostFiles.{IfAnswers, IsOfSetup}
-use Rattle.theorems.specs.StoreHosts.{AnswersAreFound, AtCommit, AtStart, BeginsOver, FindsAtStop, FoundAt, IsStillKept, StoreKeepsWhatItTold, StoreRanOver, StoreRun, StoreRunsInTurn}
+use Rattle.theorems.specs.Interleavings.{IfAnswers}
+use Rattle.theorems.specs.StoreHosts.{AnswersAreFound, AtCommit, AtStart, BeginsOver, FindsAtStop, FoundAt, IsStillKept, StoreKeepsWhatItTold, StoreRanOver, StoreRun, StoreRunsInTurn, IsOfSetup}
 use Rattle.theorems.proofs.Storing.{Has, Held, Holds, all_held, begun_has, found_holds, still_tells}
 
 -- ---- acts

@@ -19,12 +19,10 @@ use Rattle.arbiter_server.specs.Hosts.{FindsWhatIsKept, IsCommitted}
 use Rattle.arbiter_server.specs.Rounds.{Round, replies_of_rounds}
 use Rattle.arbiter_server.specs.StoreGames.{store_finds, store_keepers}
 use Rattle.relay_world.specs.Worlds.{Judged}
-use Rattle.theorems.specs.FileWeaves.{sent_by_act, sent_for}
-use Rattle.theorems.specs.HostFiles.{IfAnswers, IsOfSetup}
 use Rattle.theorems.specs.Nets.{FoundAnswered, IsNoForgery, IsSetupOf, SystemState, Site, changed, first_net, sent_with, site_of}
-use Rattle.theorems.specs.StoreHosts.{AtCommit, AtStart, BeginsOver, FindsAtStop, FoundAt, StoreRanOver, StoreRun, StoreRunsInTurn}
+use Rattle.theorems.specs.StoreHosts.{AtCommit, AtStart, BeginsOver, FindsAtStop, FoundAt, StoreRanOver, StoreRun, StoreRunsInTurn, IsOfSetup}
 use Rattle.theorems.specs.StoreWeaves.{AreFoundFronts, AreWovenInAnyOrder, FoundFronts, FrontsAreFound, NoneIsForged, HearsNoForgery, IsFoundFront, MayFind, StoreHost, StoresAreWoven, kept_at, log_after, runs_in}
-use Rattle.theorems.specs.Interleavings.{AnswersDatagram, AreRunsOf, AtA, AtB, HostEvent, Asks, Does, Ends, GivesFor, GivesIf, GivesOwn, IsHostOf, IsRunOfHost, Step, Interleaving, closed_with, deeds_a, deeds_b, first_run, later_runs, open_with}
+use Rattle.theorems.specs.Interleavings.{AnswersDatagram, AreRunsOf, AtA, AtB, HostEvent, Asks, Does, Ends, GivesFor, GivesIf, GivesOwn, IsHostOf, IsRunOfHost, Step, Interleaving, closed_with, deeds_a, deeds_b, first_run, later_runs, open_with, IfAnswers, sent_by_act, sent_for}
 use Rattle.theorems.proofs.StoreKeeping.{all_front, begins_front, own_parts}
 use Rattle.theorems.proofs.Weaving.{still}
 

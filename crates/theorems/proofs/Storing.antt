@@ -30,15 +30,14 @@ use Rattle.arbiter_server.specs.Acts.{Action, Opening, Unread, Strange, Refuses,
 use Rattle.arbiter_server.specs.Folders.{Keepers}
 use Rattle.arbiter_server.specs.Games.{AnswersTo, ClosesTo, CommonView, Fresh, Goes, GoesByAct, GameStatus, Open, OpensTo, Shut, life_after}
 use Rattle.arbiter_server.specs.Hosts.{FindsWhatIsKept}
-use Rattle.arbiter_server.specs.Lives.{StillHolds}
-use Rattle.arbiter_server.specs.OverFiles.{GoesOn}
+use Rattle.arbiter_server.specs.Lives.{GoesOn, StillHolds}
 use Rattle.arbiter_server.specs.Serving.{outputs_of}
 use Rattle.arbiter_server.proofs.FoundLaws.{own_whole}
 use Rattle.arbiter_server.proofs.OpenedLaws.{good_unless}
 use Rattle.arbiter_server.proofs.Telling.{AllTell, IsHonest, answer_honest, on_and_on, still_on}
 use Rattle.arbiter_server.proofs.Turns.{GoesFrom, goes_nowhere}
-use Rattle.theorems.specs.HostFiles.{IfAnswers, IsOfSetup}
-use Rattle.theorems.specs.StoreHosts.{BeginsOver}
+use Rattle.theorems.specs.Interleavings.{IfAnswers}
+use Rattle.theorems.specs.StoreHosts.{BeginsOver, IsOfSetup}
 
 -- ---- what was told still holds
 

@@ -1,11 +1,10 @@
 -- Two hosts and a game that both have, woven together: what each of them does, in the order of time (this project's own). A weave
 -- is an interleaving of what both do.
 --
--- Of each run of a host its contract is known (`IsHosted` of arbiter_server, which `Server::serve` ensures). It gives the setup of each
--- opening, what opening and delivering leave, from where each delivery starts, and that a game that is opened wasn't open. What no
--- contract can give is a premise, and stands here:
+-- Of each run of a host its contract is known: its acts of the game go on from one another by the steps of an arbiter (`IsRunOfHost`), as those
+-- of a server do (`served_are_hosted`), wherever it stopped. This gives the setup of each opening, what opening and delivering leave, from
+-- where each delivery starts, and that a game that is opened wasn't open. What no contract can give is a premise, and stands here:
 -- - `IsHostOf`: which hosts these are.
--- - `goes` of `IsRunOfHost`, of a run that was stopped: its acts go on from one another as those of a run that returns.
 -- - `Finds`, `AnswersDatagram` and `Stops`: the game that was found under the stamp is this one, no message of it is made up, and keepers keep.
 -- - `GivesOwn` and `GivesIf`: a datagram that no arbiter gets, a closing, and an act of another game leave what is found.
 --
@@ -30,7 +29,6 @@ use Rattle.arbiter_core.specs.Opens.{OpenResult, first_record}
 use Rattle.arbiter_server.specs.Folders.{Keepers}
 use Rattle.arbiter_server.specs.Acts.{Action, Unread, Strange, Refuses, Opens, Answers, Closes, Opening, acts_of, game_of, is_stamp}
 use Rattle.arbiter_server.specs.Games.{CommonView, Fresh, Goes, GameStatus, Open, Shut}
-use Rattle.arbiter_server.specs.Hosts.{IsHosted}
 use Rattle.relay_world.specs.Worlds.{Judged}
 use Rattle.relay_world.specs.Headline.{IsFrontOf}
 use Rattle.theorems.specs.Nets.{Asking, FoundAnswered, FoundOpened, IsNoForgery, IsOfWorld, IsSetupOf, IsToBePut, SystemState, Site, arbiter_in, changed, first_net, sent_with, site_of}
@@ -89,21 +87,15 @@ pub record IsHostOf (game : Judged) (who : ArbiterId) (t : CommonView) : Type 0 
   pub tables : t.set.tables ≡ game.rules.tables
   pub number : t.number ≡ who_number who
 
--- These acts are what a run of it has done so far: those of the game go on from one another by its steps, to some life. Of a run that
--- returns, and of each front of one, the contract of `Server::serve` gives this (`FrontsAreRuns`). Premise: so it is of a run that was
--- stopped.
+-- These acts are what a run of it has done so far: those of the game go on from one another by its steps, to some life. Of a run of a server
+-- its contract gives this, wherever it stopped (`ServedAreHosted`, `ServedFrontsAreHosted`).
 pub record IsRunOfHost {K : Type 0} (s : Keepers K) (game : Judged) (who : ArbiterId) (acts : List (Action K)) : Type 0 where
   pub common : CommonView
   pub of : IsHostOf game who common
   pub life : GameStatus K
   pub goes : Goes s common game.stamp Fresh (acts_of game.stamp acts) life
 
--- the acts of a run that returns, and each front of them, are those of a run
-abbrev pub FrontsAreRuns : {K : Type 0} → Keepers K → Type 0
-FrontsAreRuns {K = K} s =
-    (game : Judged) (who : ArbiterId) (common : CommonView) (acts rest : List (Action K)) → IsHostOf game who common → IsHosted s common (acts ++ rest) → IsRunOfHost s game who acts
-
--- so are those of each run
+-- so it is of each run
 abbrev pub AreRunsOf : {K : Type 0} → Keepers K → Judged → ArbiterId → List (HostEvent K) → Type 0
 AreRunsOf s game who deeds = AllByRecursion (IsRunOfHost s game who) (first_run deeds ∷ later_runs deeds)
 
@@ -241,3 +233,28 @@ TellsTheTruth {K = K} s game deeds =
 abbrev pub HostsTellTheTruth : {K L : Type 0} → Keepers K → Keepers L → Type 0
 HostsTellTheTruth {K = K} {L = L} a b =
     (game : Judged) (steps : List (Step K L)) (net : SystemState) → AreWoven a b game steps net → TellsTheTruth a game (deeds_a steps) × TellsTheTruth b game (deeds_b steps)
+
+-- ---- of one act
+
+-- what is said of an answer holds of an act, if it is one
+abbrev pub IfAnswers : {K : Type 0} → (Exchange K → Type 0) → Action K → Type 0
+IfAnswers P (Unread datagram fault) = Unit {0}
+IfAnswers P (Strange stamp datagram tried why) = Unit {0}
+IfAnswers P (Refuses stamp datagram o fault) = Unit {0}
+IfAnswers P (Opens stamp o arbiter) = Unit {0}
+IfAnswers P (Answers stamp e) = P e
+IfAnswers P (Closes stamp left) = Unit {0}
+
+-- the messages that are sent for the game
+abbrev pub sent_by_act : {K : Type 0} → Action K → List Message
+sent_by_act (Unread datagram fault) = []
+sent_by_act (Strange stamp datagram tried why) = []
+sent_by_act (Refuses stamp datagram o fault) = []
+sent_by_act (Opens stamp o arbiter) = []
+sent_by_act (Answers stamp e) = sent_with e.told
+sent_by_act (Closes stamp left) = []
+
+abbrev pub sent_for : {K : Type 0} → Judged → HostEvent K → List Message
+sent_for game (Does act) = cond (is_stamp game.stamp (game_of act)) (sent_by_act act) []
+sent_for game Asks = []
+sent_for game Ends = []

@@ -2,11 +2,6 @@ pub mod Nets
 pub mod Interleavings
 pub mod Sources
 pub mod Seals
-pub mod HostFiles
-pub mod AfterStops
-pub mod Listens
-pub mod FileWeaves
-pub mod Recording
 pub mod StoreHosts
 pub mod StoreWeaves
 pub mod Served

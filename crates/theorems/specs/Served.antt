@@ -1,5 +1,5 @@
--- A run of a server of games over one timeline (game_server), as one of a host (this project's own): so two of them, and one beside a host, come
--- under the theorem of two hosts. One that opens its game unasked, and may request moves first (`listen`, `--fetch`), is such a run too.
+-- A run of a server of games over one timeline (game_server), as one of a host (this project's own): so two of them come under the theorem of
+-- two hosts. One that opens its game unasked, and may request moves first (`listen`, `--fetch`), is such a run too.
 --
 -- What a run does of a game are its acts, by `OpenedGame` of served_games. Of these one is left out: the answer by which the game was opened
 -- unasked. Nobody sent that request, the answer changes nothing, and its reply goes to nobody. A request of the game's own is `Asks` of
@@ -33,7 +33,6 @@ use Rattle.served_games.specs.PlaceKeepers.{Follows, PlaceKeeper, found_keeper, 
 use Rattle.served_games.specs.ServedGames.{AreOverLeft, OpenedGame, acts_in, all_acts, game_at, heard_in_turns}
 use Rattle.served_games.specs.Unasked.{Begins}
 use Rattle.theorems.specs.Interleavings.{IsHostOf, IsRunOfHost}
-use Rattle.theorems.specs.Listens.{AreAsHosts}
 
 -- ---- acts
 
@@ -120,11 +119,8 @@ ServedRunsAreHosted {F} {G} o facts =
     → IsDurableAfter (facts.places place game.stamp) game.stamp past (events_of_all runs)
     → AllByRecursion (λ r. IsHostedRun facts place (common r.old) game who r.unasked r.begun (heard_in_run r)) runs
 
--- ---- two of them, and one beside a host
+-- ---- two of them
 
-abbrev pub ServedAreWorlds : {G H : Type 0} → GamesFacts G → GamesFacts H → Type 0
-ServedAreWorlds facts others = (place : facts.Place) (its : others.Place) → AreAsHosts (place_keepers facts place) (place_keepers others its)
-
--- whichever of the two the server is
-abbrev pub ServedBesideHost : {G K : Type 0} → GamesFacts G → Keepers K → Type 0
-ServedBesideHost facts host = (place : facts.Place) → AreAsHosts (place_keepers facts place) host × AreAsHosts host (place_keepers facts place)
+-- so it is of what two servers know, each at a place
+abbrev pub OfTwoPlaces : {G H : Type 0} → GamesFacts G → GamesFacts H → (Keepers PlaceKeeper → Keepers PlaceKeeper → Type 0) → Type 0
+OfTwoPlaces facts others Law = (place : facts.Place) (its : others.Place) → Law (place_keepers facts place) (place_keepers others its)

@@ -32,8 +32,7 @@ use Rattle.served_games.specs.Lasting.{left_by}
 use Rattle.served_games.specs.PlaceKeepers.{Follows, PlaceKeeper, found_keeper, place_keepers}
 use Rattle.served_games.specs.ServedGames.{AreOverLeft, OpenedGame, all_acts, game_at, life_through}
 use Rattle.served_games.specs.StoreRuns.{Front, GameIn, IsRunOver, NoneCommitted}
-use Rattle.theorems.specs.HostFiles.{IfAnswers}
-use Rattle.theorems.specs.Interleavings.{AtA, AtB, HostEvent, Asks, Does, Ends, IsRunOfHost, Step, deeds_a, deeds_b, first_run, later_runs}
+use Rattle.theorems.specs.Interleavings.{AtA, AtB, HostEvent, Asks, Does, Ends, IfAnswers, IsRunOfHost, Step, deeds_a, deeds_b, first_run, later_runs}
 use Rattle.theorems.specs.Nets.{IsNoForgery}
 use Rattle.theorems.specs.Served.{IsRunAt, unanswered}
 use Rattle.theorems.specs.ServedWeaves.{BothHeld, ComeToNet, Held, IsOpenNow, LeavesKept, OpensGame, first_both, held_after, sent_in}

@@ -14,9 +14,7 @@ use Rattle.served_games.specs.Durable.{left_before}
 use Rattle.served_games.specs.Lasting.{left_by}
 use Rattle.served_games.specs.PlaceKeepers.{Follows, PlaceKeeper, found_keeper, place_keepers}
 use Rattle.served_games.specs.ServedGames.{OpensOverLeft, life_by}
-use Rattle.theorems.specs.FileWeaves.{sent_by_act}
-use Rattle.theorems.specs.HostFiles.{IfAnswers}
-use Rattle.theorems.specs.Interleavings.{AreRunsOf, AreWoven, AtA, AtB, HostEvent, Asks, Does, Ends, Step, deeds_a, deeds_b}
+use Rattle.theorems.specs.Interleavings.{AreRunsOf, AreWoven, AtA, AtB, HostEvent, Asks, Does, Ends, Step, deeds_a, deeds_b, IfAnswers, sent_by_act}
 use Rattle.theorems.specs.Nets.{IsNoForgery, SystemState}
 
 -- ---- one server

@@ -15,12 +15,20 @@ use Rattle.arbiter_server.specs.Acts.{Action, Unread, Strange, Refuses, Opens, A
 use Rattle.arbiter_server.specs.Folders.{Keepers}
 use Rattle.arbiter_server.specs.Games.{CommonView, Fresh, GameStatus, Open, Shut}
 use Rattle.arbiter_server.specs.Hosts.{CommitsEach}
-use Rattle.arbiter_server.specs.Lives.{StillHolds}
-use Rattle.arbiter_server.specs.OverFiles.{GoesOn, IsItsRecord}
+use Rattle.arbiter_server.specs.Lives.{GoesOn, IsItsRecord, StillHolds}
 use Rattle.arbiter_server.specs.Rounds.{EndSent, Round, replies_of_rounds}
 use Rattle.arbiter_server.specs.Serving.{outputs_of}
 use Rattle.arbiter_server.specs.StoreGames.{store_finds, store_keepers}
-use Rattle.theorems.specs.HostFiles.{IfAnswers, IsOfSetup}
+use Rattle.theorems.specs.Interleavings.{IfAnswers}
+
+-- an opening is of this setup
+abbrev pub IsOfSetup : {K : Type 0} → SetupView → Action K → Type 0
+IsOfSetup setup (Unread datagram fault) = Unit {0}
+IsOfSetup setup (Strange stamp datagram tried why) = Unit {0}
+IsOfSetup setup (Refuses stamp datagram o fault) = o.setup ≡ setup
+IsOfSetup setup (Opens stamp o arbiter) = o.setup ≡ setup
+IsOfSetup setup (Answers stamp e) = Unit {0}
+IsOfSetup setup (Closes stamp left) = Unit {0}
 
 -- ---- what is still there
 

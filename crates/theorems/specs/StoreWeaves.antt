@@ -20,11 +20,9 @@ use Rattle.arbiter_server.specs.Games.{CommonView, Fresh, Goes, GameStatus, Open
 use Rattle.arbiter_server.specs.Rounds.{Round, replies_of_rounds}
 use Rattle.arbiter_server.specs.StoreGames.{store_finds}
 use Rattle.relay_world.specs.Worlds.{Judged}
-use Rattle.theorems.specs.FileWeaves.{sent_for}
-use Rattle.theorems.specs.HostFiles.{IfAnswers}
 use Rattle.theorems.specs.Nets.{IsNoForgery, IsSetupOf, SystemState, first_net}
 use Rattle.theorems.specs.StoreHosts.{BeginsOver, StoreRun, StoreRunsInTurn}
-use Rattle.theorems.specs.Interleavings.{AreWoven, AtA, AtB, HostEvent, Asks, Does, Ends, Step, deeds_a, deeds_b, first_run, later_runs}
+use Rattle.theorems.specs.Interleavings.{AreWoven, AtA, AtB, HostEvent, Asks, Does, Ends, Step, deeds_a, deeds_b, first_run, later_runs, IfAnswers, sent_for}
 
 -- ---- which acts happened
 

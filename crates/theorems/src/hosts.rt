@@ -1,32 +1,27 @@
-//! A game at two hosts.
+//! A game at two servers: what both do of it is what two hosts do.
 
-ghost use Rattle.arbiter_server.specs.Folders.{keepers};
-ghost use Rattle.theorems.specs.Interleavings.{AcksAreFound, FrontsAreRuns, HostsAreWorlds, HostsTellTheTruth};
+ghost use Rattle.theorems.specs.Interleavings.{AcksAreFound, HostsAreWorlds, HostsTellTheTruth};
+ghost use Rattle.theorems.specs.Served.{OfTwoPlaces};
 
-use arbiter_server::Games;
+use game_folder::Games;
+use timeline::System;
 
-/// Two hosts that have one game, each over a folder of its own, come to what a schedule comes to, in whichever order their acts come
+/// Two hosts that have one game, each over places of its own, come to what a schedule comes to, in whichever order their acts come
 /// and however often each of them is stopped and run again. So each law of `relay_world` is about what they keep and send.
 ///
-/// The premises stand in `specs/Interleavings.antt`: which hosts these are, what is outside, and that the acts of a run which was stopped go
-/// on from one another as those of one that returns.
-pub fn hosts_are_worlds<G: Games, H: Games>(_first: &G, _second: &H)
-    ensures { (first : G) (second : H) → HostsAreWorlds (keepers G.Keeper.facts G.facts first) (keepers H.Keeper.facts H.facts second) }
+/// The premises stand in `specs/Interleavings.antt`: which hosts these are, what is outside, and that the acts of each run go on from one
+/// another, as those of a server do (`served_are_hosted`).
+pub fn hosts_are_worlds<S: System, R: System, G: Games<S>, H: Games<R>>(_system: &S, _other: &R)
+    ensures { OfTwoPlaces (G.facts _system.now) (H.facts _other.now) (λ a b. HostsAreWorlds a b) }
 {}
 
 /// As many moves as a host ever acknowledged are found there, then and later, over all of its runs: the game's first ones.
-pub fn acks_are_found<G: Games, H: Games>(_first: &G, _second: &H)
-    ensures { (first : G) (second : H) → AcksAreFound (keepers G.Keeper.facts G.facts first) (keepers H.Keeper.facts H.facts second) }
+pub fn acks_are_found<S: System, R: System, G: Games<S>, H: Games<R>>(_system: &S, _other: &R)
+    ensures { OfTwoPlaces (G.facts _system.now) (H.facts _other.now) (λ a b. AcksAreFound a b) }
 {}
 
 /// What two such hosts tell of the game is true: while it is open, the record of its arbiter, of which each line tells, is the game's
 /// first moves, with the first verdict exactly at its ply.
-pub fn hosts_tell_the_truth<G: Games, H: Games>(_first: &G, _second: &H)
-    ensures { (first : G) (second : H) → HostsTellTheTruth (keepers G.Keeper.facts G.facts first) (keepers H.Keeper.facts H.facts second) }
-{}
-
-/// The acts of a run that returns, as the contract of `Server::serve` has them, and each front of them are those of a run as
-/// `hosts_are_worlds` takes them.
-pub fn fronts_are_runs<G: Games>(_games: &G)
-    ensures { (games : G) → FrontsAreRuns (keepers G.Keeper.facts G.facts games) }
+pub fn hosts_tell_the_truth<S: System, R: System, G: Games<S>, H: Games<R>>(_system: &S, _other: &R)
+    ensures { OfTwoPlaces (G.facts _system.now) (H.facts _other.now) (λ a b. HostsTellTheTruth a b) }
 {}

@@ -1,62 +1,50 @@
 //! Theorems over the crates: what two arbiters, two servers and a source come to together.
 //!
 //! Runs go in, each as the contracts of its crate have it, with what is said of the outside; what holds of all of them together comes
-//! out, as the contract of a function that does nothing (but for `run_after`, a run of an arbiter over a disk in memory that loses
-//! power). `arbiter_core` proves what one arbiter does, `arbiter_server` what one server does for each of its games, `source_core` what a
-//! source sends, and `relay_world` what holds of each schedule of deliveries, losses, repeats and restarts. Here the first three are
-//! tied to the fourth: what they keep and send for a game is what the world of some schedule keeps and has sent.
+//! out, as the contract of a function that does nothing. `arbiter_core` proves what one arbiter does, `game_server` and `served_games` what
+//! one server does for each of its games, `source_core` what a source sends, and `relay_world` what holds of each schedule of deliveries,
+//! losses, repeats and restarts. Here the first are tied to the last: what they keep and send for a game is what the world of some schedule
+//! keeps and has sent.
 //!
 //! What the outside gives is a premise, act by act, in `specs/Nets.antt` and `specs/Interleavings.antt`; nothing that a contract gives is
 //! stated there again. Of two hosts these are: which hosts they are and what their tables mean (`IsHostOf`); that the game found under
-//! the stamp is this one, that no message of it is made up, and that keepers keep (`Finds`, `AnswersDatagram`, `Stops`); that the acts
-//! of a stopped run go on as those of one that returns (`goes` of `IsRunOfHost`); that a closing, an act of another game and a datagram
-//! without a keeper leave what is found (`GivesOwn`, `GivesIf`).
+//! the stamp is this one, that no message of it is made up, and that keepers keep (`Finds`, `AnswersDatagram`, `Stops`); that a closing, an act
+//! of another game and a datagram without a keeper leave what is found (`GivesOwn`, `GivesIf`). That the acts of a run go on from one another
+//! (`goes` of `IsRunOfHost`) is proved of each run of a server, wherever it stopped (`served_are_hosted`).
 //!
-//! Inside: `arbiters`, `hosts`, `listens`, `served`, `served_stores`, `host_files`, `store_hosts`, `after_stops`, `sources`, `seals`; `recording` has a
-//! host that records what is made at it (`Recording`): so the clauses of `Host` on histories are those of one. In `proofs/`: `Netting`
-//! (arbiters), `Seeing` (keepers of any type, seen as what they keep), `Weaving` (an act of a host as steps of an arbiter),
-//! `Stopping`, `Joining`, `Acking`, `Filing` and `FileWeaving` (hosts over files), `Storing`, `StoreKeeping` and `StoreWeaving`
-//! (hosts over stores), `Listening`, `Serving` and `ServedWeaving` (servers of games over one timeline), `ServedStoring` (those over stores).
+//! Inside: `arbiters`, `hosts`, `served`, `served_stores`, `store_hosts`, `sources`, `seals`. In `proofs/`: `Netting` (arbiters), `Seeing` (keepers of
+//! any type, seen as what they keep), `Weaving` (an act of a host as steps of an arbiter), `Stopping`, `Joining`, `Acking`, `Storing`,
+//! `StoreKeeping` and `StoreWeaving` (hosts over stores), `Serving` and `ServedWeaving` (servers of games over one timeline), `ServedStoring`
+//! (those over stores).
 //!
-//! Definitions, in reading order: `Nets`, `Interleavings`, `Listens`, `Served`, `ServedWeaves`, `ServedStores`, `HostFiles`, `AfterStops`,
-//! `FileWeaves`, `StoreHosts`, `StoreWeaves`, `Sources`, `Seals`, `Recording`. A law has no case of its own; `stopping_tests` of `checks_games` runs `run_after`,
-//! and `tools/host_games` plays games between two hosts.
+//! Definitions, in reading order: `Nets`, `Interleavings`, `Served`, `ServedWeaves`, `ServedStores`, `StoreHosts`, `StoreWeaves`, `Sources`, `Seals`.
+//! A law has no case of its own; `tools/host_games` and `tools/weather` play games between two hosts.
 //!
 //! - CLAIM: `arbiters_are_worlds`: two arbiters of one game over keepers of any one type, by steps as the contracts of `open` and
 //!   `deliver` have them, come to a world, which is faithful to the game.
-//! - CLAIM: `hosts_are_worlds`: two hosts that have one game, each with any number of runs, their acts in any order and those of
-//!   other games among them, come to a world. While the game is open, its arbiter runs and its keeper keeps what is found there.
+//! - CLAIM: `hosts_are_worlds`: two hosts that have one game, each over places of its own (`Games` of `game_folder`) and with any number of runs,
+//!   their acts in any order and those of other games among them, come to a world. While the game is open, its arbiter runs and its keeper keeps
+//!   what is found there.
 //! - CLAIM: `acks_are_found`: as many moves as a host ever acknowledged are found there, then and later: the game's first ones.
 //! - CLAIM: `arbiters_tell_the_truth`; `hosts_tell_the_truth`: what such arbiters, and such hosts, tell of the game while it is open is
 //!   true: the record is the game's first moves, with the first verdict exactly at its ply.
-//! - CLAIM: of the servers of `arbiter_server`, which no program runs any more: `listens_are_hosted`: a run over one arbiter that opens its arbiter and doesn't ask for moves first goes on as one of a host that
-//!   has one game, by its acts and by what passes for each datagram, but that it opens the game unasked. `listens_are_worlds`;
-//!   `listen_beside_a_host`: so two of them, and one on either side of a host, come to a world.
 //! - CLAIM: `served_are_hosted`: what a run of a server of games (`game_server`) does of a game is what a run of a host does, where each opening is
 //!   over what was left; so of one that has opened the game unasked, and may have asked for moves, but for the answer by which it was
 //!   opened, which nobody gets. `served_game_is_hosted`; `served_folder_is_hosted`: over the file of one game, and over those of a folder, where
-//!   they are durable, each opening is so, wherever the run stopped.
-//!   `served_are_worlds`; `served_beside_a_host`: so two of them, and one on either side of a host, come to a world.
+//!   they are durable, each opening is so, wherever the run stopped. So the laws of two hosts are laws of two servers.
 //! - CLAIM: `served_are_woven`: two servers, each over files, come to a net as `hosts_are_worlds` asks, by where each opening begins: that
 //!   keepers keep, and what a closing leaves, are no premises.
 //! - CLAIM: `served_stores_are_woven`: two servers, each over a store, or one over a store and one over files, come to a net as `hosts_are_worlds`
 //!   asks, by the acts that happened of their runs, wherever each run stopped: of each run over a store those of its first turns, among them
 //!   each turn whose answers went out. What a start finds in each store, or file, is kept there; that keepers keep, and what a closing
 //!   leaves, are no premises.
-//! - CLAIM: of the servers of `arbiter_server` too: `host_keeps_what_it_told`: what a host told of a game is found at each later start over the file of its record: as many
-//!   moves as it acknowledged, the same ones, and a verdict at its ply. This holds over any files, after any runs, wherever each
-//!   stopped.
-//! - CLAIM: `disk_keeps_what_it_told`; `run_after`, clauses `one`, `there`: so it is of what an arbiter told over a disk in memory that
-//!   loses power, and a run over what a stop left of the disk is such a run.
-//! - CLAIM: of those: `hosts_over_files`: two hosts, each over a file of the game, come to a net as `hosts_are_worlds` asks, by what starts find in
-//!   the two files: that keepers keep, and what a closing leaves, are no premises.
-//! - CLAIM: of those: `answers_are_found`: before a host over a store sends the answers of a round, a start over the store finds what they
+//! - CLAIM: `answers_are_found`: before a host over a store sends the answers of a round, a start over the store finds what they
 //!   tell, and what all answers before them told.
-//! - CLAIM: of those: `store_keeps_what_it_told`: what a host over a store told of a game is found at each later start over the store: as many
+//! - CLAIM: `store_keeps_what_it_told`: what a host over a store told of a game is found at each later start over the store: as many
 //!   moves as it acknowledged, the same ones, and a verdict at its ply. This holds after any runs, wherever each stopped.
-//! - CLAIM: of those: `fronts_are_found`: after any runs of a host over a store, wherever each stopped, what a start finds of a game is what they
+//! - CLAIM: `fronts_are_found`: after any runs of a host over a store, wherever each stopped, what a start finds of a game is what they
 //!   keep by the acts of whole rounds: of each run those of its first ones, among them each whose answers went out.
-//! - CLAIM: of those: `hosts_over_stores`: two hosts, each over a store, come by such acts, in whichever order those of the two came, to a net as
+//! - CLAIM: `hosts_over_stores`: two hosts, each over a store, come by such acts, in whichever order those of the two came, to a net as
 //!   `hosts_are_worlds` asks, by what starts find in the two stores: that keepers keep, and what a closing leaves, are no premises.
 //! - CLAIM: `sends_the_log`: each datagram that a run of `send` passes on is a message of the log with which the worlds of its
 //!   moves begin.
@@ -66,28 +54,19 @@
 //! - CLAIM: `no_tag_no_forgery`: where no datagram has a forged tag, a port with keys passes on no forged message.
 #![tactic(auto)]
 
-mod after_stops;
 mod arbiters;
-mod host_files;
 mod hosts;
-mod listens;
-mod recording;
 mod seals;
 mod served;
 mod served_stores;
 mod sources;
 mod store_hosts;
 
-pub use after_stops::{Stop, disk_keeps_what_it_told, run_after};
 pub use arbiters::{arbiters_are_worlds, arbiters_tell_the_truth};
-pub use host_files::{host_keeps_what_it_told, hosts_over_files};
-pub use hosts::{acks_are_found, fronts_are_runs, hosts_are_worlds, hosts_tell_the_truth};
-pub use listens::{listen_beside_a_host, listens_are_hosted, listens_are_worlds};
-pub use recording::{MadeAt, Recorded, Recording};
+pub use hosts::{acks_are_found, hosts_are_worlds, hosts_tell_the_truth};
 pub use seals::no_tag_no_forgery;
 pub use served::{
-    served_are_hosted, served_are_worlds, served_are_woven, served_beside_a_host,
-    served_folder_is_hosted, served_game_is_hosted,
+    served_are_hosted, served_are_woven, served_folder_is_hosted, served_game_is_hosted,
 };
 pub use served_stores::served_stores_are_woven;
 pub use sources::{sends_the_log, sources_tell_the_truth};

@@ -1,10 +1,9 @@
 //! Runs of a server of games over one timeline, as those of hosts.
 
-ghost use Rattle.arbiter_server.specs.Folders.{keepers};
 ghost use Rattle.game_folder.specs.FolderGames.{folder_games_facts};
 ghost use Rattle.game_folder.specs.OneGame.{one_game_facts};
 ghost use Rattle.theorems.specs.ServedWeaves.{ServedAreWoven};
-ghost use Rattle.theorems.specs.Served.{ServedAreHosted, ServedAreWorlds, ServedBesideHost, ServedFrontsAreHosted, ServedRunsAreHosted};
+ghost use Rattle.theorems.specs.Served.{ServedAreHosted, ServedFrontsAreHosted, ServedRunsAreHosted};
 
 use timeline::System;
 
@@ -26,24 +25,7 @@ pub fn served_folder_is_hosted<S: System>(_system: &S)
     ensures { ServedRunsAreHosted (S.outside _system.now) (folder_games_facts (S.outside _system.now)) }
 {}
 
-/// Two servers of one game, each over places of its own, come to what a schedule comes to, in whichever order their acts come and however often
-/// each of them is stopped and run again. What they acknowledged is found, and what they tell is true.
-pub fn served_are_worlds<S: System, R: System, G: game_folder::Games<S>, H: game_folder::Games<R>>(
-    _system: &S,
-    _other: &R,
-)
-    ensures { ServedAreWorlds (G.facts _system.now) (H.facts _other.now) }
-{}
-
-/// So do a server and a host that have one game, whichever of the two arbiters the server is.
-pub fn served_beside_a_host<S: System, G: game_folder::Games<S>, H: arbiter_server::Games>(
-    _system: &S,
-    _host: &H,
-)
-    ensures { (host : H) → ServedBesideHost (G.facts _system.now) (keepers H.Keeper.facts H.facts host) }
-{}
-
-/// Two servers of one game, each over files, come to a net as `served_are_worlds` asks, by where each opening begins: that keepers keep, and what
+/// Two servers of one game, each over files, come to a net as `hosts_are_worlds` asks, by where each opening begins: that keepers keep, and what
 /// a closing leaves, are no premises then. So whatever a start may find over each is what a world of the game keeps.
 ///
 /// The premises stand in `specs/ServedWeaves.antt`: nothing stands in the two files at first; each opening is over what was left, in its run and

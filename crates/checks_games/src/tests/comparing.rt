@@ -18,11 +18,6 @@ pub(crate) fn check_bytes(rt: &impl Abort, told: &[u8], wanted: &[u8], row: &str
     assert_eq!(rt; told, wanted, "{row}");
 }
 
-/// The text that was told is that which was wanted.
-pub(crate) fn check_text(rt: &impl Abort, told: &str, wanted: &str) {
-    assert_eq!(rt; told, wanted);
-}
-
 /// Appends bytes.
 pub(crate) fn push_bytes(rt: &impl Abort, bytes: &mut Vec<u8>, more: &[u8]) {
     assert!(rt; bytes.extend_from_slice(more).is_ok());

@@ -5,14 +5,13 @@ use crate::tests::arbiters::{
 };
 use crate::tests::comparing::{check_bytes, check_same};
 use crate::tests::positions::position_of;
-use arbiter_core::{Arbiter, KeepFault, Keeper, Name, OpenFault, Refused, Setup, name_of};
-use arbiter_server::FileKeeper;
+use arbiter_core::{
+    Arbiter, KeepFault, Keeper, MemoryKeeper, Name, OpenFault, Refused, Setup, name_of,
+};
 use board_core::Position;
 use check_helpers::START;
 use std::alloc::Global;
 use std::process::Abort;
-use system_fakes::DiskFile;
-use system_io::KeptFile;
 
 fn fault_in(told: &Result<Arbiter<'_>, Refused<'_>>) -> Option<OpenFault> {
     match told {
@@ -178,35 +177,26 @@ fn three_moves(rt: &impl Abort, alloc: Global) -> Vec<u8> {
     record_of(rt, alloc, stamp, 0, "e2e4 e7e5 g1f3", None)
 }
 
-/// What has the name on a disk.
-fn seen(rt: &impl Abort, alloc: Global, disk: &DiskFile) -> Option<Vec<u8>> {
-    disk.read(alloc).ok().expect(rt, "what is read")
+/// A keeper in memory with these bytes.
+fn keeper_with(rt: &impl Abort, alloc: Global, bytes: &[u8]) -> MemoryKeeper {
+    assert!(rt; bytes.len() <= 8217);
+    let mut keeper = empty_keeper(rt, alloc);
+    check_same(rt, keeper.put(bytes), Ok(()), "a put");
+    keeper
 }
 
-/// A keeper over a file in memory with these bytes.
-fn keeper_over(rt: &impl Abort, alloc: Global, bytes: &[u8]) -> FileKeeper<DiskFile> {
-    let bytes = Vec::from_slice(alloc, bytes).expect(rt, "memory");
-    let disk = DiskFile::new(alloc, Some(bytes), Vec::new(alloc), false);
-    FileKeeper::new(alloc, disk).ok().expect(rt, "a keeper")
-}
-
-/// Why no arbiter is opened over a file with these bytes, or that one is; the file is left alone.
-fn check_over_file(rt: &impl Abort, alloc: Global, bytes: &[u8], wanted: Option<OpenFault>) {
-    let mut keeper = keeper_over(rt, alloc, bytes);
+/// Why no arbiter is opened over these bytes, or that one is; the bytes are left alone.
+fn check_over(rt: &impl Abort, alloc: Global, bytes: &[u8], wanted: Option<OpenFault>) {
+    let mut keeper = keeper_with(rt, alloc, bytes);
     let fault = open_fault(alloc, &mut keeper, setup_of(rt, alloc, START, 0));
     check_same(rt, (bytes.len(), fault), (bytes.len(), wanted), "opened");
-    check_same(
-        rt,
-        seen(rt, alloc, keeper.file()).as_deref(),
-        Some(bytes),
-        "the file",
-    );
+    check_same(rt, keeper.kept(), Some(bytes), "what is kept");
 }
 
 /// The record cut at any place is refused.
 fn check_cuts(rt: &impl Abort, alloc: Global, whole: &[u8]) {
     for length in 0..whole.len() {
-        check_over_file(rt, alloc, &whole[..length], Some(OpenFault::BadRecord));
+        check_over(rt, alloc, &whole[..length], Some(OpenFault::BadRecord));
     }
 }
 
@@ -214,5 +204,5 @@ fn check_cuts(rt: &impl Abort, alloc: Global, whole: &[u8]) {
 fn refuses_a_record_that_is_cut(rt: HostRuntime) {
     let whole = three_moves(&rt, rt.alloc());
     check_cuts(&rt, rt.alloc(), &whole);
-    check_over_file(&rt, rt.alloc(), &whole, None);
+    check_over(&rt, rt.alloc(), &whole, None);
 }

@@ -1,8 +1,6 @@
-//! A kept file, and a keeper over it, by the calls that are made for it, and by the calls of the system.
+//! A kept file by the calls that are made for it, and by the calls of the system.
 
 use crate::tests::comparing::{check_bytes, check_same, push_bytes};
-use arbiter_core::Keeper;
-use arbiter_server::FileKeeper;
 use std::alloc::Global;
 use std::fs;
 use std::io::sink;
@@ -94,19 +92,11 @@ fn makes_so_many_calls(rt: HostRuntime) {
     }
 }
 
-/// A keeper over a file.
-fn keeper_over(
-    rt: &impl Abort,
-    alloc: Global,
-    file: CallLog<MemoryCalls>,
-) -> FileKeeper<CallLog<MemoryCalls>> {
-    FileKeeper::new(alloc, file).ok().expect(rt, "a keeper")
-}
-
-/// The calls of a file that are made until there is a keeper over it.
+/// The calls of a file that are made by a start.
 fn check_start(rt: &impl Abort, alloc: Global, file: CallLog<MemoryCalls>, wanted: &str) {
-    let keeper = keeper_over(rt, alloc, file);
-    check_calls(rt, alloc, keeper.file().calls(), wanted);
+    let mut file = file;
+    check_same(rt, begin(alloc, &mut file).is_ok(), true, "a start");
+    check_calls(rt, alloc, file.calls(), wanted);
 }
 
 /// Where nothing is kept.
@@ -114,35 +104,12 @@ fn absent(alloc: Global) -> CallLog<MemoryCalls> {
     CallLog::new(alloc, MemoryCalls::new(alloc, None, None))
 }
 
-/// A keeper reads the file and syncs its folder, and makes no other call, whether there is a file or not.
+/// A start reads the file and syncs its folder, and makes no other call, whether there is a file or not.
 #[test]
-fn a_keeper_starts_without_a_write(rt: HostRuntime) {
+fn a_start_writes_nothing(rt: HostRuntime) {
     let file = traced(&rt, rt.alloc(), NEVER);
     check_start(&rt, rt.alloc(), file, "rf");
     check_start(&rt, rt.alloc(), absent(rt.alloc()), "rf");
-}
-
-/// Puts a record, and tells whether it is kept.
-fn is_put(keeper: &mut FileKeeper<CallLog<MemoryCalls>>) -> bool {
-    keeper.put(b"new").is_ok()
-}
-
-/// A put into a keeper makes the calls of one replacement.
-fn check_put(rt: &impl Abort, alloc: Global, row: &(usize, &str)) {
-    let mut keeper = keeper_over(rt, alloc, traced(rt, alloc, row.0));
-    check_same(rt, is_put(&mut keeper), row.0 == 6, row.1);
-    check_calls(rt, alloc, keeper.file().calls(), row.1);
-}
-
-/// How many calls a start makes.
-const CALLS_OF_A_START: usize = 2;
-
-/// A put is not made again where one of its calls fails: that call is the last one.
-#[test]
-fn a_failed_put_is_not_made_again(rt: HostRuntime) {
-    for row in &CALLS[CALLS_OF_A_START..] {
-        check_put(&rt, rt.alloc(), row);
-    }
 }
 
 /// A disk with the bytes `old`, of which the fourth call comes out so, the first being that of a start.

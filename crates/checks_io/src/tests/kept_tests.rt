@@ -1,43 +1,33 @@
-//! The keeper over a file of the system.
-
-ghost use Rattle.std.specs.Prelude.{◌≤◌, length};
+//! What a start finds in a file of the system, and a replacement of its bytes.
 
 use crate::tests::comparing::check_same;
-use arbiter_core::{KeepFault, Keeper};
-use arbiter_server::FileKeeper;
 use std::alloc::Global;
 use std::fs;
 use std::io::{Sink, sink};
 use std::os::unix::fs::symlink;
 use std::process::Abort;
 use std::rt::Files;
-use system_io::{KeptFile, ReadFault, SystemFile};
+use system_io::{KeptFile, ReadFault, SystemFile, begin, replace};
 
-/// What a keeper keeps.
-fn got<F: KeptFile + Drop>(
+/// That a start over a file reads these bytes, or none.
+fn expect_start<F: KeptFile + Drop>(
     rt: &impl Abort,
     alloc: Global,
-    keeper: &mut FileKeeper<F>,
-) -> Option<Vec<u8>> {
-    keeper.get(alloc).expect(rt, "memory")
-}
-
-/// That a keeper keeps these bytes, or none.
-fn expect_kept<F: KeptFile + Drop>(
-    rt: &impl Abort,
-    alloc: Global,
-    keeper: &mut FileKeeper<F>,
+    file: &mut F,
     bytes: Option<&[u8]>,
 ) {
-    let kept = got(rt, alloc, keeper);
-    check_same(rt, kept.as_deref(), bytes, "what is kept");
+    let got = begin(alloc, file).ok().expect(rt, "a file that is read");
+    check_same(rt, got.as_deref(), bytes, "what is kept");
 }
 
-/// Puts bytes.
-fn put_into<F: KeptFile + Drop>(keeper: &mut FileKeeper<F>, bytes: &[u8]) -> Result<(), KeepFault>
-    requires { length bytes.now ≤ 8217 }
-{
-    keeper.put(bytes)
+/// Whether a start can't read a file.
+fn is_unreadable<F: KeptFile + Drop>(alloc: Global, file: &mut F) -> bool {
+    matches!(begin(alloc, file), Err(ReadFault::Unreadable))
+}
+
+/// Starts over a file and puts bytes into it, and tells whether both were done.
+fn is_put<F: KeptFile + Drop>(alloc: Global, file: &mut F, bytes: &[u8]) -> bool {
+    begin(alloc, file).is_ok() && replace(file, bytes).is_ok()
 }
 
 /// The folder of the test, its kept file and the one beside it.
@@ -55,52 +45,21 @@ fn file_at<'a, R: Files<File = fs::File> + AllocGlobal + Abort>(
     SystemFile::at(rt, rt.alloc(), sink(), path).expect(rt, "memory")
 }
 
-/// A keeper over it, or why there is none.
-fn keeper_at<'a, R: Files<File = fs::File> + AllocGlobal + Abort>(
-    rt: &'a R,
-    path: &str,
-) -> Result<FileKeeper<SystemFile<'a, R, Sink>>, ReadFault> {
-    FileKeeper::new(rt.alloc(), file_at(rt, path))
-}
-
-/// A keeper over the kept file.
-fn kept_at<'a, R: Files<File = fs::File> + AllocGlobal + Abort>(
-    rt: &'a R,
-) -> FileKeeper<SystemFile<'a, R, Sink>> {
-    keeper_at(rt, KEPT).ok().expect(rt, "a file that is read")
-}
-
 /// That the kept file is read as these bytes.
 fn expect_read<R: Files<File = fs::File> + AllocGlobal + Abort>(rt: &R, bytes: Option<&[u8]>) {
-    expect_kept(rt, rt.alloc(), &mut kept_at(rt), bytes);
-}
-
-/// Whether there is no keeper since a file can't be read.
-fn is_unreadable<F: KeptFile + Drop>(keeper: &Result<FileKeeper<F>, ReadFault>) -> bool {
-    matches!(keeper, Err(ReadFault::Unreadable))
+    expect_start(rt, rt.alloc(), &mut file_at(rt, KEPT), bytes);
 }
 
 /// That what stands at a path is refused.
 fn expect_unread<R: Files<File = fs::File> + AllocGlobal + Abort>(rt: &R, path: &str) {
-    let keeper = keeper_at(rt, path);
-    check_same(rt, is_unreadable(&keeper), true, path);
-}
-
-/// Puts bytes into the kept file.
-fn put_at<R: Files<File = fs::File> + AllocGlobal + Abort>(
-    rt: &R,
-    bytes: &[u8],
-) -> Result<(), KeepFault>
-    requires { length bytes.now ≤ 8217 }
-{
-    put_into(&mut kept_at(rt), bytes)
+    let told = is_unreadable(rt.alloc(), &mut file_at(rt, path));
+    check_same(rt, told, true, path);
 }
 
 /// That bytes are put into the kept file, and read again.
-fn expect_put_at<R: Files<File = fs::File> + AllocGlobal + Abort>(rt: &R, bytes: &[u8])
-    requires { length bytes.now ≤ 8217 }
-{
-    check_same(rt, put_at(rt, bytes), Ok(()), "a put");
+fn expect_put_at<R: Files<File = fs::File> + AllocGlobal + Abort>(rt: &R, bytes: &[u8]) {
+    let done = is_put(rt.alloc(), &mut file_at(rt, KEPT), bytes);
+    check_same(rt, done, true, "a put");
     expect_read(rt, Some(bytes));
 }
 

@@ -231,7 +231,7 @@ fn laid_with(
     plan: &PairsPlan,
     size: u64,
     dictionary: &[u8],
-    padded: &(Vec<u16>, u8),
+    padded: (&[u16], u8),
 ) -> Result<LaidPart, AllocError>
     requires figures { AreGoodFigures plan.now }
     requires codes { AreGoodCodes plan.now }
@@ -239,15 +239,16 @@ fn laid_with(
     requires some { 1 ≤ size }
     requires size { size ≤ greatest_size }
     requires dictionary { dictionary.now ≡ dictionary_bytes plan.now }
-    requires lengths { padded.now.0.items ≡ planned_lengths plan.now size }
-    requires padding { padded.now.1 ≡ padding_for (planned_span plan.now) size }
+    requires lengths { padded.0.now ≡ planned_lengths plan.now size }
+    requires padding { padded.1 ≡ padding_for (planned_span plan.now) size }
     ensures { IfOk result (λ laid. laid ≡ laid_content (Content.Pairs plan.now) flags size) }
 {
+    let (lengths, padding) = padded;
     let span = 1u64 << plan.span_exponent;
     let points = (size + (span - 1)) / span;
-    let size_record = size_record_of(alloc, flags, plan, padded.1, dictionary)?;
-    let entries = entries_of(alloc, &padded.0, span, points)?;
-    let lengths = length_bytes(alloc, &padded.0)?;
+    let size_record = size_record_of(alloc, flags, plan, padding, dictionary)?;
+    let entries = entries_of(alloc, lengths, span, points)?;
+    let lengths = length_bytes(alloc, lengths)?;
     let blocks = blocks_bytes(alloc, plan)?;
     Ok(LaidPart::new(size_record, entries, lengths, blocks))
 }
@@ -276,10 +277,10 @@ fn laid_blocks(
     if !have_values(alloc, plan, &plan.lowest, &dictionary)? {
         return Ok(None);
     }
-    let Some(padded) = padded_lengths(alloc, plan, symbols, size)? else {
+    let Some((lengths, padding)) = padded_lengths(alloc, plan, symbols, size)? else {
         return Ok(None);
     };
-    let laid = laid_with(alloc, flags, plan, size, &dictionary, &padded)?;
+    let laid = laid_with(alloc, flags, plan, size, &dictionary, (&lengths, padding))?;
     Ok(Some(laid))
 }
 

@@ -1,6 +1,6 @@
-use Rattle.arbiter_server.specs.Folders.{keepers}
+use Rattle.served_games.specs.PlaceKeepers.{place_keepers}
 use Rattle.theorems.proofs.Acking.{acks_are_found}
 use Rattle.theorems.proofs.hosts.acks_are_found.Goals as goal
 
 pub returns : goal.returns
-returns g c = λ first second. acks_are_found (keepers g.G.Keeper.Keeper.facts g.G.Games.facts first) (keepers g.H.Keeper.Keeper.facts g.H.Games.facts second)
+returns g c = λ place its. acks_are_found (place_keepers (g.G.Games.facts c.args._system.now) place) (place_keepers (g.H.Games.facts c.args._other.now) its)

@@ -1,6 +1,6 @@
-use Rattle.arbiter_server.specs.Folders.{keepers}
+use Rattle.served_games.specs.PlaceKeepers.{place_keepers}
 use Rattle.theorems.proofs.Joining.{hosts_are_worlds}
 use Rattle.theorems.proofs.hosts.hosts_are_worlds.Goals as goal
 
 pub returns : goal.returns
-returns g c = λ first second. hosts_are_worlds (keepers g.G.Keeper.Keeper.facts g.G.Games.facts first) (keepers g.H.Keeper.Keeper.facts g.H.Games.facts second)
+returns g c = λ place its. hosts_are_worlds (place_keepers (g.G.Games.facts c.args._system.now) place) (place_keepers (g.H.Games.facts c.args._other.now) its)

@@ -1,6 +1,6 @@
-use Rattle.arbiter_server.specs.Folders.{keepers}
+use Rattle.served_games.specs.PlaceKeepers.{place_keepers}
 use Rattle.theorems.proofs.Joining.{hosts_tell_the_truth}
 use Rattle.theorems.proofs.hosts.hosts_tell_the_truth.Goals as goal
 
 pub returns : goal.returns
-returns g c = λ first second. hosts_tell_the_truth (keepers g.G.Keeper.Keeper.facts g.G.Games.facts first) (keepers g.H.Keeper.Keeper.facts g.H.Games.facts second)
+returns g c = λ place its. hosts_tell_the_truth (place_keepers (g.G.Games.facts c.args._system.now) place) (place_keepers (g.H.Games.facts c.args._other.now) its)
