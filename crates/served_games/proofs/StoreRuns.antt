@@ -461,6 +461,20 @@ module _ {T P F K S L : Type 0} (o : Outside T P F K S L) (place : StoredPlace) 
         tells = λ h. (record { front = l.front; game = l.game; over = fresh; told = all_told (IsToldStill (found_keeper more.end)) (IsToldStill (found_keeper found)) more.carries acts h.0 }, more.tells h.1);
       }
 
+  chain_by : (before : PlaceKeeper) (was mid found : Option (List ℕ)) → Follows before (found_keeper was) → (r : Run) (rs : List Run) (l : LeadsTo o place stamp setup was mid r) → ((b : PlaceKeeper) → Follows b (found_keeper mid) → Chained b rs found) → BeginsOver path stamp r.first was l.begins → Chained before (r ∷ rs) found
+  chain_by before was mid found f r rs l later (AsFound is) = step before was mid found r rs l (subst (λ (x : Option (List ℕ)). Follows before (found_keeper x)) (sym is) f) later
+  chain_by before was mid found f r rs l later (OverImport early rest records is_done are none is) =
+      let told = told_in (found_keeper l.begins) (r ∷ rs) found (step (found_keeper l.begins) was mid found r rs l (inl refl) later) in
+      record {
+        places = [];
+        last = before;
+        ran = refl;
+        end = was;
+        next = f;
+        carries = λ act h. none_told (found_keeper found) act (subst (λ (x : Option (List ℕ)). IsToldStill (found_keeper x) act) none h);
+        tells = λ h. told;
+      }
+
   chain : (before : PlaceKeeper) (was : Option (List ℕ)) → Follows before (found_keeper was) → (runs : List Run) (found : Option (List ℕ)) → LeadOn o place stamp setup was runs found → Chained before runs found
   chain before was f [] found led = record {
     places = [];
@@ -471,24 +485,7 @@ module _ {T P F K S L : Type 0} (o : Outside T P F K S L) (place : StoredPlace) 
     carries = λ act h. h;
     tells = λ h. tt;
   }
-  chain before was f (r ∷ rs) found led = by led.1.from
-    where
-      later : (b : PlaceKeeper) → Follows b (found_keeper led.0) → Chained b rs found
-      later b g = chain b led.0 g rs found led.2
-
-      by : BeginsOver path stamp r.first was led.1.begins → Chained before (r ∷ rs) found
-      by (AsFound is) = step before was led.0 found r rs led.1 (subst (λ (x : Option (List ℕ)). Follows before (found_keeper x)) (sym is) f) later
-      by (OverImport early rest records is_done are none is) =
-          let told = told_in (found_keeper led.1.begins) (r ∷ rs) found (step (found_keeper led.1.begins) was led.0 found r rs led.1 (inl refl) later) in
-          record {
-            places = [];
-            last = before;
-            ran = refl;
-            end = was;
-            next = f;
-            carries = λ act h. none_told (found_keeper found) act (subst (λ (x : Option (List ℕ)). IsToldStill (found_keeper x) act) none h);
-            tells = λ h. told;
-          }
+  chain before was f (r ∷ rs) found led = chain_by before was led.0 found f r rs led.1 (λ b g. chain b led.0 g rs found led.2) led.1.from
 
   told_by : (runs : List Run) (was found : Option (List ℕ)) → LeadOn o place stamp setup was runs found → AllByRecursion (IsKeptOf o place stamp setup found) runs
   told_by runs was found led = told_in (found_keeper was) runs found (chain (found_keeper was) was (inl refl) runs found led)
