@@ -1,5 +1,5 @@
 -- The source's own board: a reported mate is believed only where the board shows it (FIDE articles 5.1.1 and 5.2.1).
-use Rattle.std.specs.Prelude.{◌≡◌, ◌<◌, ℕ, List, IfSome}
+use Rattle.std.specs.Prelude.{◌≡◌, ◌⊎◌, ◌<◌, ℕ, List, IfSome, Some}
 use Rattle.board_core.specs.declared.parts.Parts.{Parts}
 use Rattle.board_core.specs.declared.piece.Side.TheVariants.{White, Black}
 use Rattle.board_core.specs.declared.verdict.Verdict.{Verdict}

@@ -1,6 +1,6 @@
 //! The source's own board, by which it believes a reported mate or not.
 
-ghost use Rattle.std.specs.Prelude.{◌≡◌, ◌↔◌, ◌⊎◌, IsTrue, Some, IfSome, IfNone};
+ghost use Rattle.std.specs.Prelude.{◌≡◌, ◌↔◌, IsTrue, Some, IfSome, IfNone};
 ghost use Rattle.source_core.specs.Boards.{AreBelieved, IsBelieved, IsKnownBelied, IsMate, IsShown};
 
 use crate::known::Known;
