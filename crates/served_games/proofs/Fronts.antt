@@ -206,7 +206,7 @@ module _ {T P F K S L G : Type 0} (o : Outside T P F K S L) (facts : GamesFacts 
       let mine : IsDurableAfter at stamp past done = durable_first at stamp past done turn.lines (durable_first at stamp past all rest durable) in
       let d = deed_taken o facts IsFit May order stamp place t before to old p.0 life turn.deed past p.1.deed here isat mine found_so in
       let first =
-          at_past o facts IsFit May order stamp place t before life (heard_by turn.deed) p.0 (behind (behind past done) turn.lines) (behind past all) (behind_join past done turn.lines)
-          (on_aside o facts IsFit May order stamp place t before life (heard_by turn.deed) p.0 (behind past done) turn.lines (lined form texts to old p.0 turn past p.1) d.game) in
+      at_past o facts IsFit May order stamp place t before life (heard_by turn.deed) p.0 (behind (behind past done) turn.lines) (behind past all) (behind_join past done turn.lines)
+      (on_aside o facts IsFit May order stamp place t before life (heard_by turn.deed) p.0 (behind past done) turn.lines (lined form texts to old p.0 turn past p.1) d.game) in
       let more = turns_count form (after_lines texts (deed_lines turn.deed)) to p.0 new turns first.played.life (behind past all) p.2 d.here first.played.at (durable_rest at stamp past all rest durable) first.found found (subst (λ (l : List Event). MayFind at stamp l found) (behind_join past all rest) m) in
       turn_counts form texts to old p.0 turn turns life past p.1 here isat mine found_so first found more

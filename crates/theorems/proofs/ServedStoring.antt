@@ -151,7 +151,7 @@ module _ {T P F K S L : Type 0} (o : Outside T P F K S L) (game : Judged) (who :
       let over = over_follow o place game.stamp setup before l.begins g (acts_in l.game) l.over in
       let path = place.store_path in
       let k = run_counts (store_games_facts o) place (common r.old) game who of.0.of (unasked_of path game.stamp r l.front) (requests_of r of.0.requests l.front) (begun_of path game.stamp r l.front) (heard_of path game.stamp r l.front) l.game
-          setup start delay before (over_fresh before (acts_in l.game) over) over l.one in
+      setup start delay before (over_fresh before (acts_in l.game) over) over l.one in
       let next = left_follows o place game.stamp setup before l.begins g l.game.life led.0 l.left in
       let more = store_chain (left_by before (life_through Fresh (happened l.game))) led.0 (subst (λ (x : Life). Follows (left_by before x) (found_keeper led.0)) (sym k.life) next) rs found of.1 none.1 led.2 in
       record {
@@ -191,7 +191,7 @@ module _ {T P F K S L G : Type 0} (o : Outside T P F K S L) (facts : GamesFacts 
       let d = run_done o facts at_once place game.stamp setup mine before past r are.0 (durable_first at game.stamp past events rest durable) known in
       let k = run_counts facts place (common r.old) game who of.0.of r.unasked of.0.requests (game_at r.begun game.stamp) (heard_in_run r) d.game setup start delay before d.over d.ran.over d.ran.one in
       let more = file_chain (left_by before (life_through Fresh (happened d.game))) (behind past events) rs are.1 (durable_rest at game.stamp past events rest durable)
-          (λ x m. subst (λ (l : Life). Follows (left_by before l) (found_keeper x)) (sym k.life) (d.found x m)) of.1 in
+      (λ x m. subst (λ (l : Life). Follows (left_by before l) (found_keeper x)) (sym k.life) (d.found x m)) of.1 in
       record {
         acts = happened d.game ∷ more.acts;
         of_runs = (record { its = d.game; acts_are = refl }, more.of_runs);

@@ -173,8 +173,8 @@ abbrev pub StoreBesideFiles : {T P F K S L T' P' F' K' S' L' G : Type 0} → Out
 StoreBesideFiles o o' facts =
     (game : Judged)
     → ((at_a : StoreServer o game A) (at_b : FileServer o' facts game B)
-        → (acts : StoreHappened o game A at_a) × ((its : FileHappened o' facts game B at_b)
-        × AreWovenInAnyOrder (place_keepers (store_games_facts o) at_a.place) (place_keepers facts at_b.place) game acts.acts its.acts at_a.found at_b.found))
+    → (acts : StoreHappened o game A at_a) × ((its : FileHappened o' facts game B at_b)
+    × AreWovenInAnyOrder (place_keepers (store_games_facts o) at_a.place) (place_keepers facts at_b.place) game acts.acts its.acts at_a.found at_b.found))
     × ((at_a : FileServer o' facts game A) (at_b : StoreServer o game B)
-        → (acts : FileHappened o' facts game A at_a) × ((its : StoreHappened o game B at_b)
-        × AreWovenInAnyOrder (place_keepers facts at_a.place) (place_keepers (store_games_facts o) at_b.place) game acts.acts its.acts at_a.found at_b.found))
+    → (acts : FileHappened o' facts game A at_a) × ((its : StoreHappened o game B at_b)
+    × AreWovenInAnyOrder (place_keepers facts at_a.place) (place_keepers (store_games_facts o) at_b.place) game acts.acts its.acts at_a.found at_b.found))
