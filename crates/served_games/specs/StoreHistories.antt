@@ -1,11 +1,11 @@
 -- What happens to the records of a store, call by call as `System` has them, and that its looks find what they may (this project's own).
-use Rattle.std.specs.Prelude.{◌≡◌, ◌≢◌, ◌⊎◌, ℕ, true, false, List, [], ◌∷◌, map, Result, Ok, Err, IfOk}
+use Rattle.std.specs.Prelude.{◌≡◌, ◌≢◌, ◌⊎◌, ℕ, true, false, List, [], ◌∷◌, map, Option, Result, Ok, Err}
 use Rattle.system_io.specs.Records.{AreSame, IsSettled, Records, with_all}
 use Rattle.system_io.specs.declared.record_store.Entry.{Entry}
 use Rattle.system_io.specs.declared.record_store.PutFault.{PutFault}
 use Rattle.system_io.specs.declared.record_store.PutFault.TheVariants.{Failed, OutOfMemory}
 use Rattle.system_io.specs.declared.record_store.StoreFault.{StoreFault}
-use Rattle.timeline.specs.Events.{Committed, Event, RecordSought, StoreOpened, stamped}
+use Rattle.timeline.specs.Events.{Committed, Event, RecordSought, StoreOpened, commit_event, stamped}
 use Rattle.timeline.specs.Outsides.{LeavesBatchOrNot, Outside}
 use Rattle.game_folder.specs.Places.{InStore}
 use Rattle.game_folder.specs.StoreGames.{its_bytes}
@@ -35,6 +35,14 @@ abbrev pub state_after : {A S : Type 0} → Result A PutFault → S → StoreSta
 state_after (Ok a) new = OpenAs new
 state_after (Err (OutOfMemory batch)) new = OpenAs new
 state_after (Err Failed) new = LeftBy new
+
+-- a look at a store is such a call
+abbrev pub LooksIn : {T P F K S L : Type 0} → Outside T P F K S L → S → List ℕ → Option (List ℕ) → Type 0
+LooksIn o store stamp got = CallsStore o (o.store_path store) store (RecordSought (o.store_path store) stamp got) (OpenAs store)
+
+-- and so is a commit
+abbrev pub CommitsTo : {T P F K S L A : Type 0} → Outside T P F K S L → S → S → List Entry → Result A PutFault → Type 0
+CommitsTo o old new entries result = CallsStore o (o.store_path old) old (commit_event result (o.store_path old) entries) (state_after result new)
 
 -- a store that was opened at a path is at rest, where its disk returned what was written
 pub record OpensStore {T P F K S L : Type 0} (o : Outside T P F K S L) (path : List ℕ) (new : S) (e : Event) : Type 0 where

@@ -1,8 +1,8 @@
 //! A call at a store of records, as a step of the store's history.
 
-ghost use Rattle.std.specs.Prelude.{Err, IfOk, Ok};
-ghost use Rattle.timeline.specs.Events.{RecordSought, StoreOpened, bytes_found, commit_event};
-ghost use Rattle.served_games.specs.StoreHistories.{CallsStore, OpenAs, OpensStore, state_after};
+ghost use Rattle.std.specs.Prelude.{IfOk, Ok};
+ghost use Rattle.timeline.specs.Events.{StoreOpened, bytes_found};
+ghost use Rattle.served_games.specs.StoreHistories.{CommitsTo, LooksIn, OpensStore};
 
 use std::alloc::Global;
 use system_io::{Entry, Key, PutFault, StoreFault};
@@ -27,7 +27,7 @@ pub fn find<'s, S: System>(
     store: &'s S::Store,
     stamp: &Key,
 ) -> Option<&'s [u8]>
-    ensures { let o = S.outside system.now in CallsStore o (o.store_path store.now) store.now (RecordSought (o.store_path store.now) stamp.now (bytes_found result)) (OpenAs store.now) }
+    ensures { LooksIn (S.outside system.now) store.now stamp.now (bytes_found result) }
 {
     system.find(timeline, store, stamp)
 }
@@ -39,7 +39,7 @@ pub fn commit<S: System>(
     store: &mut S::Store,
     entries: Vec<Entry>,
 ) -> Result<(), PutFault>
-    ensures { let o = S.outside system.now in CallsStore o (o.store_path store.old) store.old (commit_event result (o.store_path store.old) entries.items) (state_after result store.new) }
+    ensures { CommitsTo (S.outside system.now) store.old store.new entries.items result }
 {
     system.commit(timeline, store, entries)
 }
