@@ -1,5 +1,5 @@
 -- What is found by a stamp after an entry is taken out.
-use Rattle.std.proofs.Common.{◌≡◌, ℕ, ◌-◌, cond, List, None}
+use Rattle.std.proofs.Common.{◌≡◌, ℕ, cond, List, None}
 use Rattle.std.specs.List.{IsDistinct}
 use Rattle.std.specs.Map.{remove_entry, keys_of}
 use Rattle.std.specs.Str.{bytes_eq}

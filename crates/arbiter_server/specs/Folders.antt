@@ -4,10 +4,6 @@ use Rattle.arbiter_core.specs.Keeping.{KeeperFacts}
 use Rattle.arbiter_server.specs.declared.fault.OpenGameError.{OpenGameError}
 use Rattle.arbiter_server.specs.declared.games.GameConfig.{GameConfig}
 
--- which keepers may be given next, by stamps
-abbrev pub GivesKeepers : Type 0 → Type 1
-GivesKeepers K = List ℕ → K → Type 0
-
 -- what is known of one folder, where it is, and what its keepers tell of themselves
 pub record Keepers (K : Type 0) : Type 1 where
   pub facts : KeeperFacts K

@@ -4,14 +4,11 @@ pub mod Lives
 pub mod Inside
 pub mod GameFiles
 pub mod GameFolders
-pub mod DiskGames
 pub mod Room
 pub mod Folders
 pub mod Told
 pub mod Acts
 pub mod Games
-pub mod Rounds
-pub mod Hosts
 pub mod StoreGames
 pub mod Laws
 pub mod Remembering

@@ -12,8 +12,8 @@
 //! `game_lines`; `datagram_report`, `line`, `line_log` (which lines are written), `last_lines`; `laws`.
 //!
 //! Definitions, in reading order: `ServedLines`, `Serving`, `GameFiles`, `GameFolders`, `Told`, `LineLogs`, `Laws`; `Lives`, `Folders`, `Acts`,
-//! `Games`, `Rounds`, `Hosts`, `DiskGames`, `StoreGames` for hosts; `Room`, of games that are open; for private clauses `Remembering`,
-//! `ValueLines`. Cases stand in `listening.txt`, `hosting.txt` and `games.txt` of `rows`.
+//! `Games` for hosts; `Room`, of games that are open; `StoreGames`, of records in a store; for private clauses `Remembering`, `ValueLines`.
+//! Cases stand in `listening.txt`, `hosting.txt` and `games.txt` of `rows`.
 //!
 //! - CLAIM: `LineLog::new`; `LineLog::pick`; `laws::changes_hide_nothing`: a log begins with nothing remembered (the error of `new` has no
 //!   cause), and what is written of a line is as its form has it. Of changes it has each line that was told of a game that is open, so that each

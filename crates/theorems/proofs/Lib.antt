@@ -4,9 +4,6 @@ pub mod Weaving
 pub mod Stopping
 pub mod Joining
 pub mod Acking
-pub mod Storing
-pub mod StoreKeeping
-pub mod StoreWeaving
 pub mod Serving
 pub mod ServedWeaving
 pub mod ServedStoring

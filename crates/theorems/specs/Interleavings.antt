@@ -12,7 +12,7 @@
 -- `changed` has them, with what is in that file after each act. Then `kept` and `is_found` hold by what reading and replacing a file
 -- do (`Premises.antt` of system_io), mostly by `inl refl`. `came` holds where datagrams come from the source and from the two, and
 -- `start` and `delay` where no other game of the same stamp was entered.
-use Rattle.std.specs.Prelude.{◌≡◌, ◌⊎◌, ℕ, Bool, true, false, cond, List, [], ◌∷◌, ◌++◌, ◌≤◌, Option, Some, None, Ok, Err, IfSome, slice_get}
+use Rattle.std.specs.Prelude.{◌≡◌, ◌⊎◌, ℕ, Bool, true, false, cond, List, [], ◌∷◌, ◌≤◌, Option, Some, None, Ok, Err, IfSome, slice_get}
 use Rattle.std.specs.List.{AllByRecursion}
 use Rattle.move_msg.specs.declared.arbiter_id.ArbiterId.{ArbiterId}
 use Rattle.move_msg.specs.declared.arbiter_id.ArbiterId.TheVariants.{A, B}
@@ -253,8 +253,3 @@ sent_by_act (Refuses stamp datagram o fault) = []
 sent_by_act (Opens stamp o arbiter) = []
 sent_by_act (Answers stamp e) = sent_with e.told
 sent_by_act (Closes stamp left) = []
-
-abbrev pub sent_for : {K : Type 0} → Judged → HostEvent K → List Message
-sent_for game (Does act) = cond (is_stamp game.stamp (game_of act)) (sent_by_act act) []
-sent_for game Asks = []
-sent_for game Ends = []

@@ -12,13 +12,12 @@
 //! of another game and a datagram without a keeper leave what is found (`GivesOwn`, `GivesIf`). That the acts of a run go on from one another
 //! (`goes` of `IsRunOfHost`) is proved of each run of a server, wherever it stopped (`served_are_hosted`).
 //!
-//! Inside: `arbiters`, `hosts`, `served`, `served_stores`, `store_hosts`, `sources`, `seals`. In `proofs/`: `Netting` (arbiters), `Seeing` (keepers of
-//! any type, seen as what they keep), `Weaving` (an act of a host as steps of an arbiter), `Stopping`, `Joining`, `Acking`, `Storing`,
-//! `StoreKeeping` and `StoreWeaving` (hosts over stores), `Serving` and `ServedWeaving` (servers of games over one timeline), `ServedStoring`
-//! (those over stores).
+//! Inside: `arbiters`, `hosts`, `served`, `served_stores`, `sources`, `seals`. In `proofs/`: `Netting` (arbiters), `Seeing` (keepers of any type,
+//! seen as what they keep), `Weaving` (an act of a host as steps of an arbiter), `Stopping`, `Joining`, `Acking`, `Serving` and
+//! `ServedWeaving` (servers of games over one timeline), `ServedStoring` (those over stores).
 //!
-//! Definitions, in reading order: `Nets`, `Interleavings`, `Served`, `ServedWeaves`, `ServedStores`, `StoreHosts`, `StoreWeaves`, `Sources`, `Seals`.
-//! A law has no case of its own; `tools/host_games` and `tools/weather` play games between two hosts.
+//! Definitions, in reading order: `Nets`, `Interleavings`, `Served`, `ServedWeaves`, `ServedStores`, `Sources`, `Seals`. A law has no
+//! case of its own; `tools/host_games` and `tools/weather` play games between two hosts.
 //!
 //! - CLAIM: `arbiters_are_worlds`: two arbiters of one game over keepers of any one type, by steps as the contracts of `open` and
 //!   `deliver` have them, come to a world, which is faithful to the game.
@@ -38,14 +37,6 @@
 //!   asks, by the acts that happened of their runs, wherever each run stopped: of each run over a store those of its first turns, among them
 //!   each turn whose answers went out. What a start finds in each store, or file, is kept there; that keepers keep, and what a closing
 //!   leaves, are no premises.
-//! - CLAIM: `answers_are_found`: before a host over a store sends the answers of a round, a start over the store finds what they
-//!   tell, and what all answers before them told.
-//! - CLAIM: `store_keeps_what_it_told`: what a host over a store told of a game is found at each later start over the store: as many
-//!   moves as it acknowledged, the same ones, and a verdict at its ply. This holds after any runs, wherever each stopped.
-//! - CLAIM: `fronts_are_found`: after any runs of a host over a store, wherever each stopped, what a start finds of a game is what they
-//!   keep by the acts of whole rounds: of each run those of its first ones, among them each whose answers went out.
-//! - CLAIM: `hosts_over_stores`: two hosts, each over a store, come by such acts, in whichever order those of the two came, to a net as
-//!   `hosts_are_worlds` asks, by what starts find in the two stores: that keepers keep, and what a closing leaves, are no premises.
 //! - CLAIM: `sends_the_log`: each datagram that a run of `send` passes on is a message of the log with which the worlds of its
 //!   moves begin.
 //! - CLAIM: `sources_tell_the_truth`: what a source goes by is true, where all that came of the game was sent in a world of it: a
@@ -60,7 +51,6 @@ mod seals;
 mod served;
 mod served_stores;
 mod sources;
-mod store_hosts;
 
 pub use arbiters::{arbiters_are_worlds, arbiters_tell_the_truth};
 pub use hosts::{acks_are_found, hosts_are_worlds, hosts_tell_the_truth};
@@ -70,6 +60,3 @@ pub use served::{
 };
 pub use served_stores::served_stores_are_woven;
 pub use sources::{sends_the_log, sources_tell_the_truth};
-pub use store_hosts::{
-    answers_are_found, fronts_are_found, hosts_over_stores, store_keeps_what_it_told,
-};

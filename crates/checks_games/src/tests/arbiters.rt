@@ -85,21 +85,6 @@ pub(crate) fn message_of(
     }
 }
 
-/// The source's message of a move.
-fn source_move(rt: &impl Abort, stamp: Stamp, number: u32, text: &str) -> [u8; 27] {
-    message_of(rt, stamp, Sent::Move, number, text).encode()
-}
-
-/// The source's messages of the first three moves of a game.
-pub(crate) fn game(rt: &impl Abort) -> [[u8; 27]; 3] {
-    let stamp = stamp_of(rt, START, 0);
-    [
-        source_move(rt, stamp, 0, "e2e4"),
-        source_move(rt, stamp, 1, "e7e5"),
-        source_move(rt, stamp, 2, "g1f3"),
-    ]
-}
-
 fn ack_text(rt: &impl Abort, alloc: Global, count: Count) -> String {
     format!(in alloc; "Ack {}", count.number()).expect(rt, "memory")
 }

@@ -1,6 +1,5 @@
 use Rattle.std.proofs.Common.{◌∙◌, ap, false, refl, Some, sym, true}
 use Rattle.arbiter_server.specs.Told.{line_words}
-use Rattle.arbiter_server.specs.LineLogs.{line_with_count}
 use Rattle.arbiter_server.proofs.Remembers.{picks_counted}
 use Rattle.arbiter_server.proofs.line_log.pick_counted.Goals as goal
 
