@@ -143,17 +143,17 @@ module _ {T P F K S L : Type 0} (o : Outside T P F K S L) (place : StoredPlace) 
     abbrev t : CommonView
     t = common r.old
 
-    abbrev before : PlaceKeeper
-    before = found_keeper begins
+    abbrev at_first : PlaceKeeper
+    at_first = found_keeper begins
 
     abbrev Here : Server (StoredGames S) F → Type 0
-    Here server = IsHere o (store_games_facts o) CanCommit (MayTakeStored o) (store_keeps_in_order o) stamp place t before server
+    Here server = IsHere o (store_games_facts o) CanCommit (MayTakeStored o) (store_keeps_in_order o) stamp place t at_first server
 
     abbrev Taken : Life → List Heard → Server (StoredGames S) F → List Event → Type 0
-    Taken life hs new l = TakenOver o (store_games_facts o) CanCommit (MayTakeStored o) (store_keeps_in_order o) stamp place t before life hs new l
+    Taken life hs new l = TakenOver o (store_games_facts o) CanCommit (MayTakeStored o) (store_keeps_in_order o) stamp place t at_first life hs new l
 
     abbrev FoundBy : Server (StoredGames S) F → Life → List Event → Type 0
-    FoundBy server life l = FoundAt o (store_games_facts o) CanCommit (MayTakeStored o) (store_keeps_in_order o) stamp place t before server life l
+    FoundBy server life l = FoundAt o (store_games_facts o) CanCommit (MayTakeStored o) (store_keeps_in_order o) stamp place t at_first server life l
 
     -- ---- what happened, part by part
 
@@ -218,13 +218,13 @@ module _ {T P F K S L : Type 0} (o : Outside T P F K S L) (place : StoredPlace) 
     here = record { there = same_place r.old.shared.games.folder (o.store_path r.old.shared.games.store) place.folder place.store_path h.folder h.store; is = refl }
 
     here_begun : Here r.begun
-    here_begun = here_on o (store_games_facts o) CanCommit (MayTakeStored o) (store_keeps_in_order o) stamp place t before r.old r.begun (stays_all o (store_games_facts o) stamp r.old r.begun r.unasked h.opens) here
+    here_begun = here_on o (store_games_facts o) CanCommit (MayTakeStored o) (store_keeps_in_order o) stamp place t at_first r.old r.begun (stays_all o (store_games_facts o) stamp r.old r.begun r.unasked h.opens) here
 
     here_mid : Here r.mid
-    here_mid = here_on o (store_games_facts o) CanCommit (MayTakeStored o) (store_keeps_in_order o) stamp place t before r.begun r.mid (turns_stay o (store_games_facts o) stamp h.form h.texts r.begun r.mid r.turns h.in_turns) here_begun
+    here_mid = here_on o (store_games_facts o) CanCommit (MayTakeStored o) (store_keeps_in_order o) stamp place t at_first r.begun r.mid (turns_stay o (store_games_facts o) stamp h.form h.texts r.begun r.mid r.turns h.in_turns) here_begun
 
     here_new : Here r.new
-    here_new = here_on o (store_games_facts o) CanCommit (MayTakeStored o) (store_keeps_in_order o) stamp place t before r.mid r.new (stays_all o (store_games_facts o) stamp r.mid r.new r.heard h.hears) here_mid
+    here_new = here_on o (store_games_facts o) CanCommit (MayTakeStored o) (store_keeps_in_order o) stamp place t at_first r.mid r.new (stays_all o (store_games_facts o) stamp r.mid r.new r.heard h.hears) here_mid
 
     -- ---- what was opened unasked, and the turns
 
@@ -234,18 +234,18 @@ module _ {T P F K S L : Type 0} (o : Outside T P F K S L) (place : StoredPlace) 
 
     unasked : Taken Fresh r.unasked r.begun b
     unasked =
-        unasked_taken o (store_games_facts o) CanCommit (MayTakeStored o) (store_keeps_in_order o) stamp place t before heard_stays r.old r.begun Fresh r.unasked a h.opens here
+        unasked_taken o (store_games_facts o) CanCommit (MayTakeStored o) (store_keeps_in_order o) stamp place t at_first heard_stays r.old r.begun Fresh r.unasked a h.opens here
         (closed_at r.old (open_at r.old stamp) (h.closed stamp)) (durable_first (InStore path) stamp a opened (r.asked ++ (turned ++ late)) durable_work) found_first
 
     found_begun : FoundBy r.begun unasked.played.life c
-    found_begun = found_on o (store_games_facts o) CanCommit (MayTakeStored o) (store_keeps_in_order o) stamp place t before heard_stays r.begun unasked.played.life b r.asked here_begun asked_stays unasked.found
+    found_begun = found_on o (store_games_facts o) CanCommit (MayTakeStored o) (store_keeps_in_order o) stamp place t at_first heard_stays r.begun unasked.played.life b r.asked here_begun asked_stays unasked.found
 
     abbrev Turned : Option (List ℕ) → Type 0
-    Turned found = TurnsCount o (store_games_facts o) CanCommit (MayTakeStored o) (store_keeps_in_order o) stamp place t before heard_stays unasked.played.life r.turns c found
+    Turned found = TurnsCount o (store_games_facts o) CanCommit (MayTakeStored o) (store_keeps_in_order o) stamp place t at_first heard_stays unasked.played.life r.turns c found
 
     turns : (found : Option (List ℕ)) → May d found → Turned found
     turns found m =
-        turns_count o (store_games_facts o) CanCommit (MayTakeStored o) (store_keeps_in_order o) stamp place t before heard_stays h.form h.texts r.to r.begun r.mid r.turns unasked.played.life c h.in_turns here_begun unasked.played.at
+        turns_count o (store_games_facts o) CanCommit (MayTakeStored o) (store_keeps_in_order o) stamp place t at_first heard_stays h.form h.texts r.to r.begun r.mid r.turns unasked.played.life c h.in_turns here_begun unasked.played.at
         (durable_first (InStore path) stamp c turned late durable_turns) found_begun found m
 
     -- ---- what counts
@@ -255,8 +255,8 @@ module _ {T P F K S L : Type 0} (o : Outside T P F K S L) (place : StoredPlace) 
       abbrev its : OpenedGame (store_games_facts o) place t stamp r.unasked (game_at r.begun stamp) heard
       its = record { first = unasked.played.each; mid = unasked.played.life; opens = unasked.played.plays; at = unasked.played.at; each = each; life = to; plays = plays }
 
-      its_over : AreOverLeft (Rattle.served_games.specs.Durable.left_before before unasked.played.life) (all_acts each) → AreOverLeft (Shut before) (all_acts unasked.played.each ++ all_acts each)
-      its_over over = over_on o (store_games_facts o) CanCommit (MayTakeStored o) (store_keeps_in_order o) stamp place t before heard_stays Fresh unasked.played.life r.unasked unasked.played.each each unasked.played.plays unasked.over over
+      its_over : AreOverLeft (Rattle.served_games.specs.Durable.left_before at_first unasked.played.life) (all_acts each) → AreOverLeft (Shut at_first) (all_acts unasked.played.each ++ all_acts each)
+      its_over over = over_on o (store_games_facts o) CanCommit (MayTakeStored o) (store_keeps_in_order o) stamp place t at_first heard_stays Fresh unasked.played.life r.unasked unasked.played.each each unasked.played.plays unasked.over over
 
     abbrev Happened : Event → Type 0
     Happened = Contains (work_of r)
@@ -288,7 +288,7 @@ module _ {T P F K S L : Type 0} (o : Outside T P F K S L) (place : StoredPlace) 
       left = inl is;
     }
 
-    turns_lead : (found : Option (List ℕ)) → Counts o (store_games_facts o) CanCommit (MayTakeStored o) (store_keeps_in_order o) stamp place t before heard_stays unasked.played.life r.turns found → LeadsTo o place stamp setup was found r
+    turns_lead : (found : Option (List ℕ)) → Counts o (store_games_facts o) CanCommit (MayTakeStored o) (store_keeps_in_order o) stamp place t at_first heard_stays unasked.played.life r.turns found → LeadsTo o place stamp setup was found r
     turns_lead found k =
         let over = its_over (heard_in_turns k.first) k.each k.to k.plays k.over in
         record {
@@ -297,7 +297,7 @@ module _ {T P F K S L : Type 0} (o : Outside T P F K S L) (place : StoredPlace) 
           front = FirstTurns k.first k.later k.are k.none;
           game = its (heard_in_turns k.first) k.each k.to k.plays;
           over = over;
-          one = of_one (store_games_facts o) place t stamp setup Happened h.one r.unasked (game_at r.begun stamp) (heard_in_turns k.first) (its (heard_in_turns k.first) k.each k.to k.plays) (over_fresh before (all_acts unasked.played.each ++ all_acts k.each) over) early_made (turns_made k.first k.later k.are);
+          one = of_one (store_games_facts o) place t stamp setup Happened h.one r.unasked (game_at r.begun stamp) (heard_in_turns k.first) (its (heard_in_turns k.first) k.each k.to k.plays) (over_fresh at_first (all_acts unasked.played.each ++ all_acts k.each) over) early_made (turns_made k.first k.later k.are);
           left = k.left;
         }
 
@@ -313,16 +313,16 @@ module _ {T P F K S L : Type 0} (o : Outside T P F K S L) (place : StoredPlace) 
 
     turned_taken : Taken unasked.played.life (heard_in_turns r.turns) r.mid d
     turned_taken =
-        turns_taken o (store_games_facts o) CanCommit (MayTakeStored o) (store_keeps_in_order o) stamp place t before h.form h.texts r.to r.begun r.mid r.turns unasked.played.life c h.in_turns here_begun unasked.played.at
+        turns_taken o (store_games_facts o) CanCommit (MayTakeStored o) (store_keeps_in_order o) stamp place t at_first h.form h.texts r.to r.begun r.mid r.turns unasked.played.life c h.in_turns here_begun unasked.played.at
         (durable_first (InStore path) stamp c turned late durable_turns) found_begun
 
     late_taken : Taken turned_taken.played.life r.heard r.new e
     late_taken =
-        all_taken o (store_games_facts o) CanCommit (MayTakeStored o) (store_keeps_in_order o) stamp place t before r.mid r.new turned_taken.played.life r.heard d h.hears here_mid turned_taken.played.at
+        all_taken o (store_games_facts o) CanCommit (MayTakeStored o) (store_keeps_in_order o) stamp place t at_first r.mid r.new turned_taken.played.life r.heard d h.hears here_mid turned_taken.played.at
         (durable_rest (InStore path) stamp c turned late durable_turns) turned_taken.found
 
     all_heard : Taken unasked.played.life (heard_in_run r) r.new e
-    all_heard = on_heard o (store_games_facts o) CanCommit (MayTakeStored o) (store_keeps_in_order o) stamp place t before unasked.played.life (heard_in_turns r.turns) r.heard r.mid r.new d e turned_taken late_taken
+    all_heard = on_heard o (store_games_facts o) CanCommit (MayTakeStored o) (store_keeps_in_order o) stamp place t at_first unasked.played.life (heard_in_turns r.turns) r.heard r.mid r.new d e turned_taken late_taken
 
     module _ (early rest : List Event) (may : MayCommit r.new.shared.games) (none_early : NoneCommitted path stamp early) (none_rest : NoneCommitted path stamp rest) (is : r.tail ≡ early ++ Committed path (map stamped r.new.shared.games.noted) false ∷ rest) where
       abbrev cut : Event
@@ -347,7 +347,7 @@ module _ {T P F K S L : Type 0} (o : Outside T P F K S L) (place : StoredPlace) 
       its_path = ap (λ (x : StoredPlace). x.store_path) here_new.there
 
       all_found : FoundBy r.new all_heard.played.life f
-      all_found = found_on o (store_games_facts o) CanCommit (MayTakeStored o) (store_keeps_in_order o) stamp place t before heard_stays r.new all_heard.played.life e early here_new early_stays all_heard.found
+      all_found = found_on o (store_games_facts o) CanCommit (MayTakeStored o) (store_keeps_in_order o) stamp place t at_first heard_stays r.new all_heard.played.life e early here_new early_stays all_heard.found
 
       whole_leads : (found : Option (List ℕ)) → MayTakeStored o r.new.shared.games stamp f found → LeadsTo o place stamp setup was found r
       whole_leads found m =
@@ -359,8 +359,8 @@ module _ {T P F K S L : Type 0} (o : Outside T P F K S L) (place : StoredPlace) 
             front = AllHeard early rest (map stamped r.new.shared.games.noted) is;
             game = its (heard_in_run r) k.each k.life k.plays;
             over = over;
-            one = of_one (store_games_facts o) place t stamp setup Happened h.one r.unasked (game_at r.begun stamp) (heard_in_run r) (its (heard_in_run r) k.each k.life k.plays) (over_fresh before (all_acts unasked.played.each ++ all_acts k.each) over) early_made (for_run Happened stamp r late_happened);
-            left = found_left (MayTakeStored o r.new.shared.games stamp f) before k.life (all_found may.0) found m;
+            one = of_one (store_games_facts o) place t stamp setup Happened h.one r.unasked (game_at r.begun stamp) (heard_in_run r) (its (heard_in_run r) k.each k.life k.plays) (over_fresh at_first (all_acts unasked.played.each ++ all_acts k.each) over) early_made (for_run Happened stamp r late_happened);
+            left = found_left (MayTakeStored o r.new.shared.games stamp f) at_first k.life (all_found may.0) found m;
           }
 
       cut_leads : (found : Option (List ℕ)) → May (behind e r.tail) found → LeadsTo o place stamp setup was found r
