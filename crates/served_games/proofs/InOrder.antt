@@ -178,7 +178,7 @@ module _ {T P F K S L : Type 0} (o : Outside T P F K S L) (stamp : List ℕ) whe
   batch_may : (g : StoredGames S) (past : List Event) (found : Option (List ℕ)) → HasBatch (last_of stamp (map stamped g.noted)) found (InIt g past found) → May g past found
   batch_may g past found m = subst (λ (l : Option (List ℕ)). HasBatch l found (InIt g past found)) (batch_last g.noted stamp) m
 
-  done_may : (g : StoredGames S) (past : List Event) → FindsNoMore (InIt g (Committed (o.store_path g.store) (map stamped g.noted) true ∷ past)) (May g past)
+  pub done_may : (g : StoredGames S) (past : List Event) → FindsNoMore (InIt g (Committed (o.store_path g.store) (map stamped g.noted) true ∷ past)) (May g past)
   done_may g past found m = batch_may g past found (if_same (o.store_path g.store) (HasBatch (last_of stamp (map stamped g.noted)) found (InIt g past found)) (InIt g past found) m)
 
   pub undone_may : (g : StoredGames S) (past : List Event) (found : Option (List ℕ)) → InIt g (Committed (o.store_path g.store) (map stamped g.noted) false ∷ past) found → May g past found ⊎ InIt g past found
@@ -192,7 +192,7 @@ module _ {T P F K S L : Type 0} (o : Outside T P F K S L) (stamp : List ℕ) whe
   pub none_noted : (now : StoredGames S) (past : List Event) → now.noted ≡ [] → FindsNoMore (May now past) (InIt now past)
   none_noted now past none found m = subst (λ (es : List Entry). HasBatch (last_noted es stamp) found (InIt now past found)) none m
 
-  all_noted : (g : StoredGames S) (past : List Event) → g.noted ≡ [] → FindsNoMore (InIt g past) (May g past)
+  pub all_noted : (g : StoredGames S) (past : List Event) → g.noted ≡ [] → FindsNoMore (InIt g past) (May g past)
   all_noted g past none found m = subst (λ (es : List Entry). HasBatch (last_noted es stamp) found (InIt g past found)) (sym none) m
 
   at_path : (g now : StoredGames S) (past : List Event) → o.store_path now.store ≡ o.store_path g.store → FindsNoMore (InIt now past) (InIt g past)

@@ -13,7 +13,7 @@ use Rattle.system_io.specs.Records.{StoredRecord}
 use Rattle.timeline.specs.Events.{Committed, Event, RecordSought, stamped}
 use Rattle.timeline.specs.Outsides.{Outside}
 use Rattle.game_folder.specs.Drafts.{DraftView}
-use Rattle.game_folder.specs.Holdings.{GamesFacts}
+use Rattle.game_folder.specs.Holdings.{GamesFacts, SendsNothing}
 use Rattle.game_folder.specs.Places.{InStore}
 use Rattle.game_folder.specs.StoreGames.{MayCommit, StoredGames, StoredPlace, store_games_facts}
 use Rattle.game_server.specs.Rounds.{Heard, HearsAll, heard_events}
@@ -25,14 +25,14 @@ use Rattle.served_games.specs.InOrder.{CanCommit, FindsItsOwn, MayTakeStored}
 use Rattle.served_games.specs.Lasting.{Between, IsOfOne, IsToldStill, PlaceRun, RanInTurn, left_by}
 use Rattle.served_games.specs.PlaceKeepers.{Follows, PlaceKeeper, found_keeper}
 use Rattle.served_games.specs.ServedGames.{AreOverLeft, OpenedGame, PlaysAll, acts_in, all_acts, game_at, heard_in_turns, made_for}
-use Rattle.served_games.specs.StoreRuns.{AllHeard, AsFound, BeginsBy, BeginsOver, BetweenCalls, FirstTurns, Imports, InCommit, IsKeptOf, IsLeftSo, IsRunOver, LeadFrom, LeadOn, LeadsTo, NoImport, NoTurns, NoneCommitted, OverImport, StopsAt, StoreRunsAreLed, StoreRunsAreTold}
+use Rattle.served_games.specs.StoreRuns.{AllHeard, AsFound, BeforeCommit, BeginsBy, BeginsOver, BehindCommit, ComesToCommit, FirstTurns, HasNothing, Imports, InCommit, IsBegun, IsKeptOf, IsLeftSo, IsRunOver, LeadFrom, LeadOn, LeadsTo, NoImport, NoTurns, NoneCommitted, NothingNoted, OverImport, StopsAt, StoreRunsAreLed, StoreRunsAreTold}
 use Rattle.served_games.proofs.AtOnce.{if_same}
 use Rattle.served_games.proofs.Choosing.{choose, none_stays, only}
 use Rattle.served_games.proofs.Enduring.{all_first, all_both, all_one, all_rest, closed_at, for_made, for_run, for_turns, over_fresh}
 use Rattle.served_games.proofs.Finding.{behind_join, durable_first, durable_rest}
 use Rattle.served_games.proofs.Fronts.{Counts, TurnsCount, found_left, found_on, over_on, turns_count, unasked_taken}
 use Rattle.served_games.proofs.Going.{Acts, Life, opened_goes, opening_on, over_first, over_rest, playing_on}
-use Rattle.served_games.proofs.InOrder.{none_noted, store_keeps_in_order, undone_may}
+use Rattle.served_games.proofs.InOrder.{all_noted, done_may, none_noted, store_keeps_in_order, undone_may}
 use Rattle.served_games.proofs.Lasting.{each_lasts}
 use Rattle.served_games.proofs.Noting.{heard_none, made_none}
 use Rattle.served_games.proofs.Running.{stays_all, stays_on, turns_stay}
@@ -276,25 +276,25 @@ module _ {T P F K S L : Type 0} (o : Outside T P F K S L) (place : StoredPlace) 
         (all_first Happened (run_events r.to first) (run_events r.to later)
         (subst (AllByRecursion Happened) (ap (run_events r.to) are ∙ flat_map-append (turn_events r.to) first later) (all_first Happened turned late late_happened)))
 
-    nothing_leads : (found : Option (List ℕ)) → (none : Rattle.served_games.specs.StoreRuns.NoneSent r.turns) → found ≡ begins → LeadsTo o place stamp setup was found r
+    nothing_leads : SendsNothing r.tail → (found : Option (List ℕ)) → (none : Rattle.served_games.specs.StoreRuns.NoneSent r.turns) → found ≡ begins → LeadsTo o place stamp setup was found r
     unfolding PlaysAll
-    nothing_leads found none is = record {
+    nothing_leads sends found none is = record {
       begins = begins;
       from = from;
-      front = NoTurns none;
+      front = NoTurns none sends;
       game = record { first = []; mid = Fresh; opens = refl; at = tt; each = []; life = Fresh; plays = refl };
       over = tt;
       one = tt;
       left = inl is;
     }
 
-    turns_lead : (found : Option (List ℕ)) → Counts o (store_games_facts o) CanCommit (MayTakeStored o) (store_keeps_in_order o) stamp place t at_first heard_stays unasked.played.life r.turns found → LeadsTo o place stamp setup was found r
-    turns_lead found k =
+    turns_lead : SendsNothing r.tail → (found : Option (List ℕ)) → Counts o (store_games_facts o) CanCommit (MayTakeStored o) (store_keeps_in_order o) stamp place t at_first heard_stays unasked.played.life r.turns found → LeadsTo o place stamp setup was found r
+    turns_lead sends found k =
         let over = its_over (heard_in_turns k.first) k.each k.to k.plays k.over in
         record {
           begins = begins;
           from = from;
-          front = FirstTurns k.first k.later k.are k.none;
+          front = FirstTurns k.first k.later k.are k.none sends;
           game = its (heard_in_turns k.first) k.each k.to k.plays;
           over = over;
           one = of_one (store_games_facts o) place t stamp setup Happened h.one r.unasked (game_at r.begun stamp) (heard_in_turns k.first) (its (heard_in_turns k.first) k.each k.to k.plays) (over_fresh at_first (all_acts unasked.played.each ++ all_acts k.each) over) early_made (turns_made k.first k.later k.are);
@@ -302,12 +302,12 @@ module _ {T P F K S L : Type 0} (o : Outside T P F K S L) (place : StoredPlace) 
         }
 
     -- behind the datagrams that were heard last
-    late_leads : (found : Option (List ℕ)) → May e found → LeadsTo o place stamp setup was found r
-    late_leads found m = by (turns found (late_stays found m))
+    late_leads : SendsNothing r.tail → (found : Option (List ℕ)) → May e found → LeadsTo o place stamp setup was found r
+    late_leads sends found m = by (turns found (late_stays found m))
       where
         by : Turned found → LeadsTo o place stamp setup was found r
-        by (inl x) = nothing_leads found x.1 (first_is found x.0)
-        by (inr k) = turns_lead found k
+        by (inl x) = nothing_leads sends found x.1 (first_is found x.0)
+        by (inr k) = turns_lead sends found k
 
     -- ---- a stop in a commit
 
@@ -324,9 +324,27 @@ module _ {T P F K S L : Type 0} (o : Outside T P F K S L) (place : StoredPlace) 
     all_heard : Taken unasked.played.life (heard_in_run r) r.new e
     all_heard = on_heard o (store_games_facts o) CanCommit (MayTakeStored o) (store_keeps_in_order o) stamp place t at_first unasked.played.life (heard_in_turns r.turns) r.heard r.mid r.new d e turned_taken late_taken
 
-    module _ (early rest : List Event) (may : MayCommit r.new.shared.games) (none_early : NoneCommitted path stamp early) (none_rest : NoneCommitted path stamp rest) (is : r.tail ≡ early ++ Committed path (map stamped r.new.shared.games.noted) false ∷ rest) where
+    its_path : o.store_path r.new.shared.games.store ≡ path
+    its_path = ap (λ (x : StoredPlace). x.store_path) here_new.there
+
+    -- what a taking may find then is what all that was heard leaves
+    whole_leads : (l : List Event) → FoundBy r.new all_heard.played.life l → ComesToCommit path r.new.shared.games r.tail → r.new.shared.games.loss ≡ None → (found : Option (List ℕ)) → MayTakeStored o r.new.shared.games stamp l found → LeadsTo o place stamp setup was found r
+    whole_leads l all comes fit found m =
+        let k = all_heard.played in
+        let over = its_over (heard_in_run r) k.each k.life k.plays all_heard.over in
+        record {
+          begins = begins;
+          from = from;
+          front = AllHeard comes;
+          game = its (heard_in_run r) k.each k.life k.plays;
+          over = over;
+          one = of_one (store_games_facts o) place t stamp setup Happened h.one r.unasked (game_at r.begun stamp) (heard_in_run r) (its (heard_in_run r) k.each k.life k.plays) (over_fresh at_first (all_acts unasked.played.each ++ all_acts k.each) over) early_made (for_run Happened stamp r late_happened);
+          left = found_left (MayTakeStored o r.new.shared.games stamp l) at_first k.life (all fit) found m;
+        }
+
+    module _ (is_done : Bool) (early rest : List Event) (may : MayCommit r.new.shared.games) (none_early : NoneCommitted path stamp early) (none_rest : NoneCommitted path stamp rest) (is : r.tail ≡ early ++ Committed path (map stamped r.new.shared.games.noted) is_done ∷ rest) where
       abbrev cut : Event
-      cut = Committed path (map stamped r.new.shared.games.noted) false
+      cut = Committed path (map stamped r.new.shared.games.noted) is_done
 
       abbrev f : List Event
       f = behind e early
@@ -340,38 +358,22 @@ module _ {T P F K S L : Type 0} (o : Outside T P F K S L) (place : StoredPlace) 
       rest_stays : StaysFound (InStore path) stamp (cut ∷ f) rest
       rest_stays = none_stays path stamp (cut ∷ f) rest none_rest (durable_rest (InStore path) stamp e early (cut ∷ rest) durable_cut).1
 
-      abbrev UndoneAt : List ℕ → Option (List ℕ) → Type 0
-      UndoneAt x found = MayFind (InStore x) stamp (Committed x (map stamped r.new.shared.games.noted) false ∷ f) found
+      abbrev CutAt : List ℕ → Option (List ℕ) → Type 0
+      CutAt x found = MayFind (InStore x) stamp (Committed x (map stamped r.new.shared.games.noted) is_done ∷ f) found
 
-      its_path : o.store_path r.new.shared.games.store ≡ path
-      its_path = ap (λ (x : StoredPlace). x.store_path) here_new.there
+      cut_found : (found : Option (List ℕ)) → May (behind e r.tail) found → CutAt (o.store_path r.new.shared.games.store) found
+      cut_found found m =
+          subst (λ (x : List ℕ). CutAt x found) (sym its_path) (rest_stays found (subst (λ (l : List Event). May l found) (ap (behind e) is ∙ behind_join e early (cut ∷ rest)) m))
 
       all_found : FoundBy r.new all_heard.played.life f
       all_found = found_on o (store_games_facts o) CanCommit (MayTakeStored o) (store_keeps_in_order o) stamp place t at_first heard_stays r.new all_heard.played.life e early here_new early_stays all_heard.found
 
-      whole_leads : (found : Option (List ℕ)) → MayTakeStored o r.new.shared.games stamp f found → LeadsTo o place stamp setup was found r
-      whole_leads found m =
-          let k = all_heard.played in
-          let over = its_over (heard_in_run r) k.each k.life k.plays all_heard.over in
-          record {
-            begins = begins;
-            from = from;
-            front = AllHeard early rest (map stamped r.new.shared.games.noted) is;
-            game = its (heard_in_run r) k.each k.life k.plays;
-            over = over;
-            one = of_one (store_games_facts o) place t stamp setup Happened h.one r.unasked (game_at r.begun stamp) (heard_in_run r) (its (heard_in_run r) k.each k.life k.plays) (over_fresh at_first (all_acts unasked.played.each ++ all_acts k.each) over) early_made (for_run Happened stamp r late_happened);
-            left = found_left (MayTakeStored o r.new.shared.games stamp f) at_first k.life (all_found may.0) found m;
-          }
+      cut_leads : (found : Option (List ℕ)) → MayTakeStored o r.new.shared.games stamp f found → LeadsTo o place stamp setup was found r
+      cut_leads found m = whole_leads f all_found (IsBegun early rest (map stamped r.new.shared.games.noted) is_done is) may.0 found m
 
-      cut_leads : (found : Option (List ℕ)) → May (behind e r.tail) found → LeadsTo o place stamp setup was found r
-      cut_leads found m = by (undone_may o stamp r.new.shared.games f found (subst (λ (x : List ℕ). UndoneAt x found) (sym its_path) cut_found))
-        where
-          cut_found : May (cut ∷ f) found
-          cut_found = rest_stays found (subst (λ (l : List Event). May l found) (ap (behind e) is ∙ behind_join e early (cut ∷ rest)) m)
-
-          by : MayTakeStored o r.new.shared.games stamp f found ⊎ MayFind (InStore (o.store_path r.new.shared.games.store)) stamp f found → LeadsTo o place stamp setup was found r
-          by (inl whole) = whole_leads found whole
-          by (inr old) = late_leads found (early_stays found (subst (λ (x : List ℕ). MayFind (InStore x) stamp f found) its_path old))
+      -- the batch isn't there
+      uncut_leads : SendsNothing r.tail → (found : Option (List ℕ)) → MayFind (InStore (o.store_path r.new.shared.games.store)) stamp f found → LeadsTo o place stamp setup was found r
+      uncut_leads sends found m = late_leads sends found (early_stays found (subst (λ (x : List ℕ). MayFind (InStore x) stamp f found) its_path m))
 
     run_leads : (found : Option (List ℕ)) → May (behind a (work_of r ++ r.tail)) found → LeadsTo o place stamp setup was found r
     run_leads found m = by h.stops
@@ -379,9 +381,20 @@ module _ {T P F K S L : Type 0} (o : Outside T P F K S L) (place : StoredPlace) 
         behind_all : May (behind e r.tail) found
         behind_all = subst (λ (l : List Event). May l found) joined m
 
+        by_batch : (early rest : List Event) (may : MayCommit r.new.shared.games) (none_early : NoneCommitted path stamp early) (none_rest : NoneCommitted path stamp rest) (is : r.tail ≡ early ++ Committed path (map stamped r.new.shared.games.noted) false ∷ rest) → SendsNothing r.tail
+            → MayTakeStored o r.new.shared.games stamp (behind e early) found ⊎ MayFind (InStore (o.store_path r.new.shared.games.store)) stamp (behind e early) found → LeadsTo o place stamp setup was found r
+        by_batch early rest may none_early none_rest is sends (inl whole) = cut_leads false early rest may none_early none_rest is found whole
+        by_batch early rest may none_early none_rest is sends (inr old) = uncut_leads false early rest may none_early none_rest is sends found old
+
         by : StopsAt path stamp r.new.shared.games r.tail → LeadsTo o place stamp setup was found r
-        by (BetweenCalls none) = late_leads found (none_stays path stamp e r.tail none durable_tail found behind_all)
-        by (InCommit early rest may none_early none_rest is) = cut_leads early rest may none_early none_rest is found behind_all
+        by (BeforeCommit none sends) = late_leads sends found (none_stays path stamp e r.tail none durable_tail found behind_all)
+        by (InCommit early rest may none_early none_rest is sends) =
+            by_batch early rest may none_early none_rest is sends (undone_may o stamp r.new.shared.games (behind e early) found (cut_found false early rest may none_early none_rest is found behind_all))
+        by (BehindCommit early rest may none_early none_rest is) =
+            cut_leads true early rest may none_early none_rest is found (done_may o stamp r.new.shared.games (behind e early) found (cut_found true early rest may none_early none_rest is found behind_all))
+        by (NothingNoted fit noted none) =
+            whole_leads e all_heard.found (HasNothing noted) fit found
+            (all_noted o stamp r.new.shared.games e noted found (subst (λ (x : List ℕ). MayFind (InStore x) stamp e found) (sym its_path) (none_stays path stamp e r.tail none durable_tail found behind_all)))
 
   -- ---- all runs
 

@@ -1,9 +1,9 @@
 -- What a game told over a store, over all runs of a server, and wherever each of them stopped (this project's own).
 --
 -- Behind a commit that was broken off a start finds the whole batch or what was there before, and only what is found later tells which. So of each
--- run the acts of some of its first turns count (`Front`), among them each turn whose answers went out: a turn that doesn't count is one whose
--- answers didn't.
-use Rattle.std.specs.Prelude.{◌≡◌, ◌++◌, ℕ, Bool, false, List, [], ◌∷◌, map, Option, Some, None, Ok}
+-- run the acts of some of its first turns count (`Front`), among them each turn of whose answers any went out: a turn that doesn't count is one
+-- whose answers didn't.
+use Rattle.std.specs.Prelude.{◌≡◌, ◌++◌, ℕ, Bool, true, false, List, [], ◌∷◌, map, Option, Some, None, Ok}
 use Rattle.std.specs.List.{AllByRecursion, Contains}
 use Rattle.arbiter_core.specs.Delivers.{Moment}
 use Rattle.arbiter_core.specs.Setups.{SetupView}
@@ -13,6 +13,7 @@ use Rattle.system_io.specs.Records.{StoredRecord}
 use Rattle.timeline.specs.Events.{Committed, Event, RecordSought, stamped}
 use Rattle.timeline.specs.Outsides.{Outside}
 use Rattle.game_folder.specs.Drafts.{DraftView}
+use Rattle.game_folder.specs.Holdings.{SendsNothing}
 use Rattle.game_folder.specs.Places.{InStore}
 use Rattle.game_folder.specs.StoreGames.{MayCommit, StoredGames, StoredPlace, store_games_facts}
 use Rattle.game_server.specs.Printing.{LineForm}
@@ -35,28 +36,33 @@ WasSent HearsNone = ⊥
 abbrev pub NoneSent : List Turn → Type 0
 NoneSent turns = AllByRecursion (λ t. WasSent t.deed → ⊥) turns
 
--- Of a run this counts: nothing; or what was opened unasked, and its first turns; or all that was heard, where it stopped in a commit to the
--- store. No answers of another turn went out.
-pub data Front {G F : Type 0} (path : List ℕ) (r : ServedRun G F) : Type 0 where
-  NoTurns : NoneSent r.turns → Front path r
-  FirstTurns : (first later : List Turn) → r.turns ≡ first ++ later → NoneSent later → Front path r
-  AllHeard : (early late : List Event) (records : List (List ℕ × StoredRecord)) → r.tail ≡ early ++ Committed path records false ∷ late → Front path r
+-- what games noted came to a commit, which was done or not; or they noted nothing
+pub data ComesToCommit {S : Type 0} (path : List ℕ) (games : StoredGames S) (tail : List Event) : Type 0 where
+  IsBegun : (early late : List Event) (records : List (List ℕ × StoredRecord)) (is_done : Bool) → tail ≡ early ++ Committed path records is_done ∷ late → ComesToCommit path games tail
+  HasNothing : games.noted ≡ [] → ComesToCommit path games tail
 
-module _ {G F : Type 0} (path stamp : List ℕ) (r : ServedRun G F) where
+-- Of a run this counts: nothing; or what was opened unasked, and its first turns; or all that was heard, where that came to a commit. No answers to
+-- another datagram went out.
+pub data Front {S F : Type 0} (path : List ℕ) (r : ServedRun (StoredGames S) F) : Type 0 where
+  NoTurns : NoneSent r.turns → SendsNothing r.tail → Front path r
+  FirstTurns : (first later : List Turn) → r.turns ≡ first ++ later → NoneSent later → SendsNothing r.tail → Front path r
+  AllHeard : ComesToCommit path r.new.shared.games r.tail → Front path r
+
+module _ {S F : Type 0} (path stamp : List ℕ) (r : ServedRun (StoredGames S) F) where
   abbrev pub unasked_of : Front path r → List Heard
-  unasked_of (NoTurns none) = []
-  unasked_of (FirstTurns first later are none) = r.unasked
-  unasked_of (AllHeard early late records cut) = r.unasked
+  unasked_of (NoTurns none sends) = []
+  unasked_of (FirstTurns first later are none sends) = r.unasked
+  unasked_of (AllHeard comes) = r.unasked
 
   abbrev pub begun_of : Front path r → Option (Moment DraftView)
-  begun_of (NoTurns none) = None
-  begun_of (FirstTurns first later are none) = game_at r.begun stamp
-  begun_of (AllHeard early late records cut) = game_at r.begun stamp
+  begun_of (NoTurns none sends) = None
+  begun_of (FirstTurns first later are none sends) = game_at r.begun stamp
+  begun_of (AllHeard comes) = game_at r.begun stamp
 
   abbrev pub heard_of : Front path r → List Heard
-  heard_of (NoTurns none) = []
-  heard_of (FirstTurns first later are none) = heard_in_turns first
-  heard_of (AllHeard early late records cut) = heard_in_run r
+  heard_of (NoTurns none sends) = []
+  heard_of (FirstTurns first later are none sends) = heard_in_turns first
+  heard_of (AllHeard comes) = heard_in_run r
 
 -- ---- a run
 
@@ -74,11 +80,15 @@ pub data BeginsBy (path stamp : List ℕ) (first : List Event) : Type 0 where
   Imports : (early mid late : List Event) (records : List (List ℕ × StoredRecord)) (is_done : Bool) → NoneCommitted path stamp early → NoneCommitted path stamp mid → NoneCommitted path stamp late
       → first ≡ early ++ RecordSought path stamp None ∷ (mid ++ Committed path records is_done ∷ late) → BeginsBy path stamp first
 
--- where a run stopped: between two calls; or in a commit of what was noted, which is as one that failed
+-- Where a run stopped: before a commit of what was noted; in one, which is as one that failed, or behind one that failed; behind one that succeeded;
+-- or where nothing was to be committed. Nothing is sent before a commit that succeeded, or behind one that failed.
 pub data StopsAt {S : Type 0} (path stamp : List ℕ) (games : StoredGames S) (tail : List Event) : Type 0 where
-  BetweenCalls : NoneCommitted path stamp tail → StopsAt path stamp games tail
+  BeforeCommit : NoneCommitted path stamp tail → SendsNothing tail → StopsAt path stamp games tail
   InCommit : (early late : List Event) → MayCommit games → NoneCommitted path stamp early → NoneCommitted path stamp late
-      → tail ≡ early ++ Committed path (map stamped games.noted) false ∷ late → StopsAt path stamp games tail
+      → tail ≡ early ++ Committed path (map stamped games.noted) false ∷ late → SendsNothing tail → StopsAt path stamp games tail
+  BehindCommit : (early late : List Event) → MayCommit games → NoneCommitted path stamp early → NoneCommitted path stamp late
+      → tail ≡ early ++ Committed path (map stamped games.noted) true ∷ late → StopsAt path stamp games tail
+  NothingNoted : games.loss ≡ None → games.noted ≡ [] → NoneCommitted path stamp tail → StopsAt path stamp games tail
 
 -- a start may find this of a game that was left so; as long as it wasn't opened, what was left before
 abbrev pub IsLeftSo : PlaceKeeper → GameStatus PlaceKeeper → Option (List ℕ) → Type 0

@@ -131,9 +131,9 @@ module _ {T P F K S L : Type 0} (o : Outside T P F K S L) (game : Judged) (who :
       is ∙ (all_rest (CommitsNone place.store_path game.stamp) early (Committed place.store_path records is_done ∷ late) (subst (NoneCommitted place.store_path game.stamp) are none)).0 refl ∙ sym nothing
 
   requests_of : (r : ServedRun (StoredGames S) F) → AreRequests r.unasked → (front : Front place.store_path r) → AreRequests (unasked_of place.store_path game.stamp r front)
-  requests_of r q (NoTurns none) = tt
-  requests_of r q (FirstTurns first later are none) = q
-  requests_of r q (AllHeard early late records cut) = q
+  requests_of r q (NoTurns none sends) = tt
+  requests_of r q (FirstTurns first later are none sends) = q
+  requests_of r q (AllHeard comes) = q
 
   record StoreChain (before : PlaceKeeper) (runs : List (ServedRun (StoredGames S) F)) (found : Option (List ℕ)) : Type 0 where
     acts : List Acts
