@@ -3,7 +3,6 @@ use Rattle.std.proofs.Common.{◌∙◌, ℕ, List, [], ◌∷◌, ap}
 use Rattle.std.specs.List.{AllByRecursion}
 use Rattle.arbiter_core.specs.Setups.{SetupView}
 use Rattle.arbiter_server.specs.GameFiles.{SpellsGame, game_as_told}
-use Rattle.arbiter_server.specs.GameFolders.{game_path}
 use Rattle.arbiter_server.specs.Games.{CommonView, setup_of}
 use Rattle.arbiter_server.specs.declared.games.GameConfig.{GameConfig}
 use Rattle.timeline.specs.Outsides.{Outside}

@@ -1,5 +1,5 @@
 -- What a start finds behind turns over a store is what some first ones of them leave, among them each whose answers went out.
-use Rattle.std.proofs.Common.{◌≡◌, ◌⊎◌, inl, inr, ◌∙◌, ℕ, Bool, List, [], ◌∷◌, ◌++◌, Option, None, flat_map, refl, sym, ap, subst, append-nil}
+use Rattle.std.proofs.Common.{◌≡◌, ◌⊎◌, inl, inr, ◌∙◌, ℕ, List, [], ◌∷◌, ◌++◌, Option, flat_map, refl, sym, ap, subst, append-nil}
 use Rattle.std.specs.Prelude.{Result, Ok, Err}
 use Rattle.std.proofs.lemmas.List.Concat.{flat_map-append}
 use Rattle.arbiter_server.specs.Games.{CommonView, Fresh, Open, Shut}
@@ -22,7 +22,7 @@ use Rattle.served_games.proofs.Asides.{aside_one, asides, end_aside, lines_aside
 use Rattle.served_games.proofs.Finding.{behind_join, durable_first, durable_rest, left_acts, over_join}
 use Rattle.served_games.proofs.Going.{Acts, Life, played_are_hosted, plays_join}
 use Rattle.served_games.proofs.Running.{stays_all, stays_one}
-use Rattle.served_games.proofs.Taking.{FoundAt, IsHere, TakenOver, all_taken, at_past, deed_taken, found_less, here_on, nothing, on_aside, on_heard, one_taken, round_heard}
+use Rattle.served_games.proofs.Taking.{FoundAt, IsHere, TakenOver, at_past, deed_taken, found_less, here_on, nothing, on_aside, on_heard, one_taken, round_heard}
 
 pub found_left : (may : Option (List ℕ) → Type 0) (before : PlaceKeeper) (life : Life) → FindsItsOwn may before life → (found : Option (List ℕ)) → may found → IsLeftSo before life found
 found_left may before Fresh h found m = h found m

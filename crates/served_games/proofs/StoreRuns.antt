@@ -20,12 +20,12 @@ use Rattle.game_server.specs.Rounds.{Heard, HearsAll, heard_events}
 use Rattle.game_server.specs.Runs.{Turn, run_events, turn_events}
 use Rattle.game_server.specs.Seats.{common, open_at}
 use Rattle.game_server.specs.declared.server.Server.{Server}
-use Rattle.served_games.specs.Durable.{HasBatch, IsDurableAfter, MayFind, ServedRun, StaysFound, behind, events_of, events_of_all, heard_in_run, last_of, made_of, turned_of, work_of}
-use Rattle.served_games.specs.InOrder.{CanCommit, FindsItsOwn, MayTakeStored}
+use Rattle.served_games.specs.Durable.{HasBatch, IsDurableAfter, MayFind, ServedRun, StaysFound, behind, events_of, events_of_all, heard_in_run, last_of, left_before, made_of, turned_of, work_of}
+use Rattle.served_games.specs.InOrder.{CanCommit, MayTakeStored}
 use Rattle.served_games.specs.Lasting.{Between, IsOfOne, IsToldStill, PlaceRun, RanInTurn, left_by}
 use Rattle.served_games.specs.PlaceKeepers.{Follows, PlaceKeeper, found_keeper}
 use Rattle.served_games.specs.ServedGames.{AreOverLeft, OpenedGame, PlaysAll, acts_in, all_acts, game_at, heard_in_turns, made_for}
-use Rattle.served_games.specs.StoreRuns.{AllHeard, AsFound, BeforeCommit, BeginsBy, BeginsOver, BehindCommit, ComesToCommit, FirstTurns, HasNothing, Imports, InCommit, IsBegun, IsKeptOf, IsLeftSo, IsRunOver, LeadFrom, LeadOn, LeadsTo, NoImport, NoTurns, NoneCommitted, NothingNoted, OverImport, StopsAt, StoreRunsAreLed, StoreRunsAreTold}
+use Rattle.served_games.specs.StoreRuns.{AllHeard, AsFound, BeforeCommit, BeginsBy, BeginsOver, BehindCommit, ComesToCommit, FirstTurns, HasNothing, Imports, InCommit, IsBegun, IsKeptOf, IsLeftSo, IsRunOver, LeadFrom, LeadOn, LeadsTo, NoImport, NoTurns, NoneCommitted, NoneSent, NothingNoted, OverImport, StopsAt, StoreRunsAreLed, StoreRunsAreTold}
 use Rattle.served_games.proofs.AtOnce.{if_same}
 use Rattle.served_games.proofs.Choosing.{choose, none_stays, only}
 use Rattle.served_games.proofs.Enduring.{all_first, all_both, all_one, all_rest, closed_at, for_made, for_run, for_turns, over_fresh}
@@ -35,7 +35,7 @@ use Rattle.served_games.proofs.Going.{Acts, Life, opened_goes, opening_on, over_
 use Rattle.served_games.proofs.InOrder.{all_noted, done_may, none_noted, store_keeps_in_order, undone_may}
 use Rattle.served_games.proofs.Lasting.{each_lasts}
 use Rattle.served_games.proofs.Noting.{heard_none, made_none}
-use Rattle.served_games.proofs.Running.{stays_all, stays_on, turns_stay}
+use Rattle.served_games.proofs.Running.{stays_all, turns_stay}
 use Rattle.served_games.proofs.Taking.{FoundAt, IsHere, TakenOver, all_taken, here_on, on_heard, turns_taken}
 
 same_place : (a b c d : List ℕ) → a ≡ c → b ≡ d → ◌≡◌ {A = StoredPlace} (record { folder = a; store_path = b }) (record { folder = c; store_path = d })
@@ -255,7 +255,7 @@ module _ {T P F K S L : Type 0} (o : Outside T P F K S L) (place : StoredPlace) 
       abbrev its : OpenedGame (store_games_facts o) place t stamp r.unasked (game_at r.begun stamp) heard
       its = record { first = unasked.played.each; mid = unasked.played.life; opens = unasked.played.plays; at = unasked.played.at; each = each; life = to; plays = plays }
 
-      its_over : AreOverLeft (Rattle.served_games.specs.Durable.left_before at_first unasked.played.life) (all_acts each) → AreOverLeft (Shut at_first) (all_acts unasked.played.each ++ all_acts each)
+      its_over : AreOverLeft (left_before at_first unasked.played.life) (all_acts each) → AreOverLeft (Shut at_first) (all_acts unasked.played.each ++ all_acts each)
       its_over over = over_on o (store_games_facts o) CanCommit (MayTakeStored o) (store_keeps_in_order o) stamp place t at_first heard_stays Fresh unasked.played.life r.unasked unasked.played.each each unasked.played.plays unasked.over over
 
     abbrev Happened : Event → Type 0
@@ -276,7 +276,7 @@ module _ {T P F K S L : Type 0} (o : Outside T P F K S L) (place : StoredPlace) 
         (all_first Happened (run_events r.to first) (run_events r.to later)
         (subst (AllByRecursion Happened) (ap (run_events r.to) are ∙ flat_map-append (turn_events r.to) first later) (all_first Happened turned late late_happened)))
 
-    nothing_leads : SendsNothing r.tail → (found : Option (List ℕ)) → (none : Rattle.served_games.specs.StoreRuns.NoneSent r.turns) → found ≡ begins → LeadsTo o place stamp setup was found r
+    nothing_leads : SendsNothing r.tail → (found : Option (List ℕ)) → (none : NoneSent r.turns) → found ≡ begins → LeadsTo o place stamp setup was found r
     unfolding PlaysAll
     nothing_leads sends found none is = record {
       begins = begins;

@@ -3,7 +3,7 @@
 -- Behind a commit that was broken off a start finds the whole batch or what was there before, and only what is found later tells which. So of each
 -- run the acts of some of its first turns count (`Front`), among them each turn of whose answers any went out: a turn that doesn't count is one
 -- whose answers didn't.
-use Rattle.std.specs.Prelude.{◌≡◌, ◌++◌, ℕ, Bool, true, false, List, [], ◌∷◌, map, Option, Some, None, Ok}
+use Rattle.std.specs.Prelude.{◌≡◌, ◌++◌, ℕ, Bool, true, false, List, [], ◌∷◌, map, Option, None, Ok}
 use Rattle.std.specs.List.{AllByRecursion, Contains}
 use Rattle.arbiter_core.specs.Delivers.{Moment}
 use Rattle.arbiter_core.specs.Setups.{SetupView}

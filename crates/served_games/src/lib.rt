@@ -9,13 +9,13 @@
 //! a start and a put, where nobody else writes the file and the disk keeps what it took (`FilesAreDurable`); so it does of a store
 //! (`StoresAreDurable`).
 //!
-//! Inside: `laws`; `files` and `stores`, what `System` promises of a call at a file or a store, as a step of its history. In `proofs/`: `Carrying` (an answer over a
-//! draft as one over what is kept), `Opening`, `Going` (acts behind others), `Playing` (one datagram), `Running` (a run), `Telling` and `Lasting`
-//! (what was told, over acts and runs), `Finding` (what may be found behind acts), `Asides` (events that change nothing of it), `Following` (a
-//! run), `Enduring` (all runs); `Stamping` (stamps are bytes, and paths of two differ), `AtOnce` (files), `OneGames`, `FolderRuns`,
-//! `FileHistories`; `Reaching` and `InTurn` (what a datagram makes of the games), `InOrder` (a store), `Taking` (a run over it); `Choosing` (what was
-//! found before, by what is found later), `Noting` (what commits nothing), `Fronts` (which turns of a run count), `StoreRuns` and `FolderStores`
-//! (all runs over a store).
+//! Inside: `laws`; `files` and `stores`, what `System` promises of a call at a file or a store, as a step of its history. In `proofs/`: `Carrying`
+//! (an answer over a draft as one over what is kept), `Opening`, `Going` (acts behind others), `Playing` (one datagram), `Running` (a run),
+//! `Telling` and `Lasting` (what was told, over acts and runs), `Finding` (what may be found behind acts), `Asides` (events that change nothing
+//! of it), `Following` (a run), `Enduring` (all runs); `Stamping` (stamps are bytes, and paths of two differ), `AtOnce` (files), `OneGames`,
+//! `FolderRuns`, `FileHistories`; `Reaching` and `InTurn` (what a datagram makes of the games), `InOrder` (a store), `Taking` (a run over it);
+//! `Choosing` (what was found before, by what is found later), `Noting` (what commits nothing), `Fronts` (which turns of a run count), `StoreRuns`
+//! and `FolderStores` (all runs over a store), `StoreHistories`.
 //!
 //! Definitions, in reading order: `PlaceKeepers`, `ServedGames` (`GoesOn`, `PlaysAll`, `OpenedGame`), `Lasting` (`WhatWasToldLasts`), `Durable`
 //! (`MayFind`, `IsDurable`, `KeepsAtOnce`, `RunsLast`), `Unasked` (`Begins`), `OneGames` (`OneGameKeepsWhatItTold`), `FolderRuns`

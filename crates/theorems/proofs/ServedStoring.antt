@@ -9,7 +9,7 @@ use Rattle.arbiter_core.specs.Setups.{SetupView}
 use Rattle.arbiter_server.proofs.Turning.{itself}
 use Rattle.arbiter_server.specs.Acts.{Action, Unread, Strange, Refuses, Opens, Answers, Closes, game_of, is_stamp}
 use Rattle.arbiter_server.specs.Folders.{Keepers}
-use Rattle.arbiter_server.specs.Games.{CommonView, Fresh, Goes, Open, Shut, life_at}
+use Rattle.arbiter_server.specs.Games.{CommonView, Fresh, Goes, Open, Shut}
 use Rattle.relay_world.specs.Worlds.{Judged}
 use Rattle.timeline.specs.Events.{Committed, Event}
 use Rattle.timeline.specs.Outsides.{Outside}

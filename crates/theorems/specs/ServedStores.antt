@@ -27,7 +27,7 @@ use Rattle.game_folder.specs.StoreGames.{StoredGames, StoredPlace, store_games_f
 use Rattle.arbiter_core.specs.Delivers.{Moment}
 use Rattle.game_server.specs.Rounds.{Heard}
 use Rattle.game_server.specs.Seats.{common}
-use Rattle.served_games.specs.Durable.{AreServedRuns, IsDurableAfter, IsToldAt, KeepsAtOnce, MayFind, ServedRun, behind, events_of_all, heard_in_run}
+use Rattle.served_games.specs.Durable.{AreServedRuns, IsDurableAfter, IsToldAt, MayFind, ServedRun, behind, events_of_all, heard_in_run}
 use Rattle.served_games.specs.Lasting.{left_by}
 use Rattle.served_games.specs.PlaceKeepers.{Follows, PlaceKeeper, found_keeper, place_keepers}
 use Rattle.served_games.specs.ServedGames.{AreOverLeft, OpenedGame, all_acts, game_at, life_through}
