@@ -291,7 +291,7 @@ fn enter_next<S: System>(
     system: &S,
     timeline: &mut S::Timeline,
 ) -> Result<Step, WriteFault>
-    ensures made { AddsSome (S.outside system.now) timeline.old timeline.new (NextAt (S.outside system.now) place.now number line.now records.old records.new result) }
+    ensures made { let o = S.outside system.now in AddsSome o timeline.old timeline.new (NextAt o place.now number line.now records.old records.new result) }
     ensures cause { OnErr result (OutputFails (S.outside system.now)) }
 {
     match enter_line(place, records, line, system, timeline) {

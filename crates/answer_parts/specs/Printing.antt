@@ -52,6 +52,10 @@ pub record WritesText (text : List ℕ) (events : List Event) : Type 0 where
 abbrev pub PrintsReply : Reply → List Event → Option ℕ → Type 0
 PrintsReply reply events status = WritesText reply.text events × (status ≡ Some reply.status)
 
+-- so it is of this text and this status
+abbrev pub PrintsText : List ℕ → ℕ → List Event → Option ℕ → Type 0
+PrintsText text status = PrintsReply (record { text = text; status = status })
+
 -- so it is of an answer, or it is written that memory was refused for it
 abbrev pub PrintsReplied : {E : Type 0} → Result Answer E → List Event → Option ℕ → Type 0
 PrintsReplied (Ok answer) events status = PrintsReply (reply_of answer) events status

@@ -3,7 +3,7 @@
 ghost use Rattle.std.specs.Prelude.{◌∷◌, [], OnErr, map};
 ghost use Rattle.answer_parts.specs.Asked.{reply_of};
 ghost use Rattle.answer_parts.specs.Lines.{refusal_words, words_of};
-ghost use Rattle.answer_parts.specs.Printing.{ArePrinted, OutputFails, Performs, Prints, PrintsReplied, PrintsReply};
+ghost use Rattle.answer_parts.specs.Printing.{ArePrinted, OutputFails, Performs, Prints, PrintsReplied, PrintsReply, PrintsText};
 ghost use Rattle.line_teller.specs.ToldLines.{cut_words};
 ghost use Rattle.move_msg.specs.TextLines.{text_of};
 ghost use Rattle.timeline.specs.Outsides.{AddsSome};
@@ -88,7 +88,7 @@ fn print_all<S: System>(
     lines: &[Line],
     status: u8,
 ) -> Result<u8, WriteFault>
-    ensures made { AddsSome (S.outside system.now) timeline.old timeline.new (Performs (PrintsReply (record { text = text_of (map words_of lines.now); status = status })) result) }
+    ensures made { AddsSome (S.outside system.now) timeline.old timeline.new (Performs (PrintsText (text_of (map words_of lines.now)) status) result) }
     ensures cause { OnErr result (OutputFails (S.outside system.now)) }
 {
     match print_lines(system, timeline, lines) {

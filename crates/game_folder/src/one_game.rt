@@ -4,7 +4,7 @@ ghost use Rattle.std.specs.Prelude.{◌≡◌, ◌||◌, false, not, IfErr, Err,
 ghost use Rattle.arbiter_server.specs.GameFiles.{game_as_told};
 ghost use Rattle.timeline.specs.Events.{is_done};
 ghost use Rattle.timeline.specs.Outsides.{AddsSome};
-ghost use Rattle.game_folder.specs.Holdings.{CommitsGames, IsKeptIn, KeepsGame, TakesGame};
+ghost use Rattle.game_folder.specs.Holdings.{CommitsGames, IsKeptIn, KeepsIn, TakesGame};
 ghost use Rattle.game_folder.specs.OneGame.{OneGameView, one_game_facts};
 ghost use Rattle.game_folder.specs.Places.{InFile};
 
@@ -89,7 +89,7 @@ impl<'f, S: System> Games<S> for OneGame<'f> {
         timeline: &mut S::Timeline,
         stamp: Stamp,
     ) -> Result<KeptGame<S::File>, OpenGameError>
-        ensures made { AddsSome (S.outside system.now) timeline.old timeline.new (TakesGame (one_game_facts (S.outside system.now)) (S.outside system.now) self.old self.new stamp result) }
+        ensures made { let o = S.outside system.now in AddsSome o timeline.old timeline.new (TakesGame (one_game_facts o) o self.old self.new stamp result) }
         ensures same { self.new ≡ self.old }
     {
         take_file(alloc, system, timeline, self.path, stamp)
@@ -102,7 +102,7 @@ impl<'f, S: System> Games<S> for OneGame<'f> {
         game: &mut KeptGame<S::File>,
     ) -> Result<(), OpenGameError>
         requires { IsKeptIn (S.outside system.now) (InFile self.old.at.path) game.old.file }
-        ensures made { let o = S.outside system.now in AddsSome o timeline.old timeline.new (KeepsGame (one_game_facts o) o self.old self.new game.old game.new result) }
+        ensures made { let o = S.outside system.now in KeepsIn (one_game_facts o) o self.old self.new game.old game.new timeline.old timeline.new result }
         ensures lost { self.new ≡ record self.old { is_lost = self.old.is_lost || not (is_done result) } }
     {
         let done = put_file(system, timeline, game);

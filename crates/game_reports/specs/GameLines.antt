@@ -1,11 +1,12 @@
 -- Games that are read one by one, a line each, and counted, one event after another (this project's own).
 use Rattle.std.specs.Prelude.{◌≡◌, ◌++◌, ℕ, Bool, List, [], ◌∷◌, Option, Some, None, is_some}
-use Rattle.answer_parts.specs.Printing.{printed}
+use Rattle.answer_parts.specs.Printing.{Prints, printed}
 use Rattle.answer_parts.specs.Reply.{status_if}
 use Rattle.game_status.specs.Tellings.{are_well, sums_of, sums_words}
 use Rattle.game_status.specs.declared.status_lines.Look.{Look}
 use Rattle.game_status.specs.declared.telling.GameTold.{GameTold}
 use Rattle.game_status.specs.declared.telling.Mark.{Mark}
+use Rattle.game_status.specs.declared.telling.Sums.{Sums}
 use Rattle.line_teller.specs.ToldLines.{refused_memory}
 use Rattle.system_io.specs.Disks.{DiskFacts}
 use Rattle.timeline.specs.Events.{Event}
@@ -27,6 +28,10 @@ TellsOne Reads stamp t events = (reading : List Event) × Reads stamp (Some t) r
 pub data TellsNext (Reads : List ℕ → Option GameTold → List Event → Type 0) (stamp : List ℕ) (events : List Event) (is : Option (Option Mark)) : Type 0 where
   NextTold : (t : GameTold) → TellsOne Reads stamp t events → is ≡ Some (Some t.mark) → TellsNext Reads stamp events is
   NoRoomForNext : (reading : List Event) → Reads stamp None reading → events ≡ reading ++ printed (refused_memory ∷ []) → is ≡ Some None → TellsNext Reads stamp events is
+
+-- sums are written, and the status is 0 where nothing is at fault and nothing differs
+abbrev pub PrintsSums : Bool → Sums → List Event → Option ℕ → Type 0
+PrintsSums compares sums = Prints (sums_words compares sums ∷ []) (status_if (are_well sums))
 
 -- All games are told in turn, and then their sums, and the status is 0 where nothing is at fault and nothing differs. Or the first ones are,
 -- and memory is refused for the next, which is written. Or these are the first events alone.

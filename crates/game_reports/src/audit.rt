@@ -41,7 +41,7 @@ fn audit_folders<S: System>(
     system: &S,
     timeline: &mut S::Timeline,
 ) -> Result<u8, WriteFault>
-    ensures made { AddsSome (S.outside system.now) timeline.old timeline.new (Performs (AuditsFolders (S.outside system.now) task.now tables.entry.manifest.now tables.entry.set.tables) result) }
+    ensures made { let o = S.outside system.now in AddsSome o timeline.old timeline.new (Performs (AuditsFolders o task.now tables.entry.manifest.now tables.entry.set.tables) result) }
     ensures cause { OnErr result (OutputFails (S.outside system.now)) }
 {
     match open_games(alloc, system, timeline, task.games, task.other) {

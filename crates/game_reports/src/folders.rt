@@ -55,7 +55,7 @@ fn open_other<'a, S: System>(
     timeline: &mut S::Timeline,
     path: Option<&'a str>,
 ) -> Result<Option<OpenFolder<'a>>, Refusal>
-    ensures { AddsSome (S.outside system.now) timeline.old timeline.new (OpensOther (S.outside system.now) (option_map (λ s. s.now) path.entry) (other_or_not result)) }
+    ensures { let o = S.outside system.now in AddsSome o timeline.old timeline.new (OpensOther o (option_map (λ s. s.now) path.entry) (other_or_not result)) }
 {
     match path {
         None => Ok(None),
@@ -74,7 +74,7 @@ fn open_both<'a, S: System>(
     folder: &'a str,
     other: Option<&'a str>,
 ) -> Result<OpenFolders<'a>, Refusal>
-    ensures { AddsSome (S.outside system.now) timeline.old timeline.new (OpensBoth (S.outside system.now) folder.now (option_map (λ s. s.now) other.entry) (both_or_not result)) }
+    ensures { let o = S.outside system.now in AddsSome o timeline.old timeline.new (OpensBoth o folder.now (option_map (λ s. s.now) other.entry) (both_or_not result)) }
 {
     let one = match open_folder(alloc, system, timeline, folder) {
         Ok(one) => one,
@@ -172,7 +172,7 @@ pub(crate) fn open_games<'a, S: System>(
     folder: &'a str,
     other: Option<&'a str>,
 ) -> Result<GameFolders<'a>, Refusal>
-    ensures { AddsSome (S.outside system.now) timeline.old timeline.new (OpensGames (S.outside system.now) folder.now (option_map (λ s. s.now) other.entry) (games_or_not result)) }
+    ensures { let o = S.outside system.now in AddsSome o timeline.old timeline.new (OpensGames o folder.now (option_map (λ s. s.now) other.entry) (games_or_not result)) }
 {
     let opened = match open_both(alloc, system, timeline, folder, other) {
         Ok(opened) => opened,

@@ -68,7 +68,7 @@ fn print_kept<S: System>(
     system: &S,
     timeline: &mut S::Timeline,
 ) -> Result<u8, WriteFault>
-    ensures made { AddsSome (S.outside system.now) timeline.old timeline.new (Performs (PrintsKept (S.outside system.now).disk task.now (records_of entries.now task.now.stamp)) result) }
+    ensures made { let o = S.outside system.now in AddsSome o timeline.old timeline.new (Performs (PrintsKept o.disk task.now (records_of entries.now task.now.stamp)) result) }
     ensures cause { OnErr result (OutputFails (S.outside system.now)) }
 {
     match found_in(entries, task.stamp) {

@@ -207,7 +207,7 @@ fn read_store<S: System>(
     store: &StoreWords<'_>,
     names: &[String],
 ) -> Result<Vec<Entry>, ReadFault>
-    ensures { AddsSome (S.outside system.now) timeline.old timeline.new (ReadsStore (S.outside system.now) (folder_of store.now) (map string_bytes names.now) (records_taken result)) }
+    ensures { let o = S.outside system.now in AddsSome o timeline.old timeline.new (ReadsStore o (folder_of store.now) (map string_bytes names.now) (records_taken result)) }
 {
     if has_half_store(names) {
         return Err(ReadFault::Unreadable);

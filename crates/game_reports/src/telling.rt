@@ -2,10 +2,9 @@
 
 ghost use Rattle.std.specs.Prelude.{◌≡◌, ◌∷◌, [], ℕ, List, IfOk, OnErr};
 ghost use Rattle.answer_parts.specs.Printing.{OutputFails, Performs, Prints};
-ghost use Rattle.answer_parts.specs.Reply.{status_if};
+ghost use Rattle.game_reports.specs.GameLines.{PrintsSums};
 ghost use Rattle.game_reports.specs.Inside.Looking.{GamesIn, LineIn, NextIn};
 ghost use Rattle.game_status.specs.GameAudits.{AreFewDelays};
-ghost use Rattle.game_status.specs.Tellings.{are_well, sums_words};
 ghost use Rattle.game_status.specs.declared.status_lines.Look.{Look};
 ghost use Rattle.game_status.specs.declared.telling.GameTold.{GameTold};
 ghost use Rattle.timeline.specs.Outsides.{AddsSome};
@@ -76,7 +75,7 @@ fn print_game<T: LookTeller, S: System>(
     system: &S,
     timeline: &mut S::Timeline,
 ) -> Result<Option<Mark>, WriteFault>
-    ensures made { AddsSome (S.outside system.now) timeline.old timeline.new (Performs (NextIn (S.outside system.now) folders.now (T.tells teller.old) stamp) result) }
+    ensures made { let o = S.outside system.now in AddsSome o timeline.old timeline.new (Performs (NextIn o folders.now (T.tells teller.old) stamp) result) }
     ensures cause { OnErr result (OutputFails (S.outside system.now)) }
     ensures same { teller.new ≡ teller.old }
 {
@@ -93,7 +92,7 @@ fn print_sums<S: System>(
     sums: &Sums,
     compares: bool,
 ) -> Result<u8, WriteFault>
-    ensures made { AddsSome (S.outside system.now) timeline.old timeline.new (Performs (Prints (sums_words compares sums.now ∷ []) (status_if (are_well sums.now))) result) }
+    ensures made { AddsSome (S.outside system.now) timeline.old timeline.new (Performs (PrintsSums compares sums.now) result) }
     ensures cause { OnErr result (OutputFails (S.outside system.now)) }
 {
     match sums_line(sums, compares).write(system, timeline, Stream::Output) {

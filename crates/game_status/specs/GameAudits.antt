@@ -47,6 +47,10 @@ IsOwnFile manifest stamp side = IsGameOf manifest stamp side.game.name.items sid
 abbrev pub IsSoundSide : List ℕ → Tables → List ℕ → Side → Type 0
 IsSoundSide manifest tables stamp side = IsOwnFile manifest stamp side × IsWholeRecord side.game.start tables side.kept
 
+-- and so is another record of the game
+abbrev pub IsSoundPair : List ℕ → Tables → List ℕ → Side → Option Records → Type 0
+IsSoundPair manifest tables stamp side other = IsSoundSide manifest tables stamp side × IsWholeRecord side.game.start tables other
+
 -- what is wrong with it: the file is another game's, or else the record
 abbrev pub IsUnsoundSide : List ℕ → Tables → List ℕ → Side → Unsound → Type 0
 IsUnsoundSide manifest tables stamp side unsound.OtherGame = IsOwnFile manifest stamp side → ⊥
@@ -62,7 +66,7 @@ IsUnsoundPair manifest tables stamp side other (unsound.OtherRecord finding) = I
 -- nothing is wrong beyond what the files have
 abbrev pub IsSoundLook : List ℕ → Tables → List ℕ → Look → Type 0
 IsSoundLook manifest tables stamp (look.One side) = IsSoundSide manifest tables stamp side
-IsSoundLook manifest tables stamp (look.Both side other compared) = IsSoundSide manifest tables stamp side × IsWholeRecord side.game.start tables other.kept
+IsSoundLook manifest tables stamp (look.Both side other compared) = IsSoundPair manifest tables stamp side other.kept
 IsSoundLook manifest tables stamp (look.AtFault fault) = Unit {0}
 IsSoundLook manifest tables stamp (look.OtherAtFault fault) = Unit {0}
 

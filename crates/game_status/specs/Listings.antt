@@ -9,6 +9,7 @@ use Rattle.hex.specs.Hex.{encode_lower}
 use Rattle.move_msg.specs.Stamps.{IsStamp}
 use Rattle.system_io.specs.Disks.{AtFolder, DiskFacts}
 use Rattle.game_status.specs.declared.listing.Folder.{Folder}
+use Rattle.game_status.specs.declared.listing.Folders.{Folders}
 
 -- the name of the file of a stamp: the stamp in lower-case hexadecimal digits, and an ending
 abbrev pub stamp_file_name : List ℕ → List ℕ → List ℕ
@@ -72,3 +73,7 @@ CannotListOther disk other = (path : List ℕ) × (other ≡ Some path) × disk.
 
 abbrev pub CannotList : DiskFacts → List ℕ → Option (List ℕ) → Type 0
 CannotList disk folder other = disk.fails (AtFolder folder) ⊎ CannotListOther disk other
+
+-- so it is of folders that are listed together
+abbrev pub AreListedIn : DiskFacts → List ℕ → Option (List ℕ) → Folders → Type 0
+AreListedIn disk folder other f = AreListed disk folder other (listing_of f.one) (option_map listing_of f.other) f.stamps.items

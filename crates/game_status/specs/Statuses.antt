@@ -30,6 +30,11 @@ kept_words (Some r) = decimal (length r.moves) ++ codes " " ++ verdict_or_none r
 abbrev pub line_of_one : List ℕ → Side → List ℕ
 line_of_one stamp side = encode_lower stamp ++ codes " " ++ kept_words side.kept ++ codes " " ++ side.game.name.items
 
+-- the stamp, what is kept in each folder, and what comes of comparing it
+abbrev pub columns_of_two : List ℕ → Option Records → Option Records → Compared → List ℕ
+columns_of_two stamp one other compared =
+    encode_lower stamp ++ codes " " ++ kept_words one ++ codes " " ++ kept_words other ++ codes " " ++ compared_words compared
+
 -- the stamp, what is kept in each folder, what comes of comparing it, and the name in the first folder
 abbrev pub line_of_two : List ℕ → Side → Side → Compared → List ℕ
 line_of_two stamp one other compared =

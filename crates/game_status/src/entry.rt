@@ -65,7 +65,7 @@ pub(crate) fn read_entry<D: Disk>(
     folder: &Folder<'_>,
     stamp: Stamp,
 ) -> Result<Result<Entry, EntryFault>, AllocError>
-    ensures entry { IfOk result (λ r. IfOk r (λ e. HasEntry (D.facts disk.now) (listing_of folder.now) stamp (game_told e.game) (option_map (λ v. v.items) e.kept))) }
+    ensures has { IfOk result (λ r. IfOk r (λ e. HasEntry (D.facts disk.now) (listing_of folder.now) stamp (game_told e.game) (option_map (λ v. v.items) e.kept))) }
     ensures fault { IfOk result (λ r. IfErr r (LacksEntry (D.facts disk.now) (listing_of folder.now) stamp)) }
 {
     let game = match find_game(alloc, disk, folder.path, stamp) {

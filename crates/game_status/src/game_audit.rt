@@ -3,7 +3,7 @@
 ghost use Rattle.std.specs.Prelude.{◌≡◌, ◌≤◌, ◌↔◌, IfOk, IfSome, IfNone, IsTrue};
 ghost use Rattle.board_core.specs.Delays.{most_delay};
 ghost use Rattle.arbiter_server.specs.Games.{IsGameOf};
-ghost use Rattle.game_status.specs.GameAudits.{AreFewDelays, IsAuditOf, IsSoundSide, IsSoundLook, IsUnsoundLook, IsUnsoundPair, IsUnsoundSide, IsUntrue, IsWholeRecord};
+ghost use Rattle.game_status.specs.GameAudits.{AreFewDelays, IsAuditOf, IsSoundPair, IsSoundSide, IsSoundLook, IsUnsoundLook, IsUnsoundPair, IsUnsoundSide, IsUntrue, IsWholeRecord};
 
 use crate::audit_lines::{AuditLook, Unsound};
 use crate::side::Side;
@@ -100,7 +100,7 @@ fn unsound_pair(
 ) -> Result<Option<Unsound>, AllocError>
     requires first { IfSome side.now.kept (λ r. r.delay ≤ most_delay) }
     requires second { IfSome other.now (λ r. r.delay ≤ most_delay) }
-    ensures none { IfOk result (λ found. IfNone found (IsSoundSide tables.old.manifest.now tables.old.set.tables stamp side.now × IsWholeRecord side.now.game.start tables.old.set.tables other.now)) }
+    ensures none { IfOk result (λ found. IfNone found (IsSoundPair tables.old.manifest.now tables.old.set.tables stamp side.now other.now)) }
     ensures some { IfOk result (λ found. IfSome found (IsUnsoundPair tables.old.manifest.now tables.old.set.tables stamp side.now other.now)) }
     ensures same { tables.new ≡ tables.old }
 {

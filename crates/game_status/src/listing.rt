@@ -7,7 +7,7 @@ ghost use Rattle.std.specs.Ordering.{nat_cmp};
 ghost use Rattle.hex.specs.Hex.{encode_lower};
 ghost use Rattle.system_io.specs.Disks.{AtFolder};
 ghost use Rattle.move_msg.specs.Stamps.{IsStamp};
-ghost use Rattle.game_status.specs.Listings.{AddsStamps, AreListed, CannotList, CannotListOther, listing_of, stamp_file_name};
+ghost use Rattle.game_status.specs.Listings.{AddsStamps, AreListedIn, CannotList, CannotListOther, listing_of, stamp_file_name};
 ghost use Rattle.game_status.specs.Inside.Listing.{ListsFolder, ListsOther};
 
 use move_msg::Stamp;
@@ -154,7 +154,7 @@ pub(crate) fn list_folders<'a, D: Disk>(
     folder: &'a str,
     other: Option<&'a str>,
 ) -> Result<Folders<'a>, ReadFault>
-    ensures ok { IfOk result (λ f. AreListed (D.facts disk.now) folder.now (option_map (λ s. s.now) other.entry) (listing_of f.one) (option_map listing_of f.other) f.stamps.items) }
+    ensures ok { IfOk result (λ f. AreListedIn (D.facts disk.now) folder.now (option_map (λ s. s.now) other.entry) f) }
     ensures cause { IsErrOf result ReadFault.Unreadable → CannotList (D.facts disk.now) folder.now (option_map (λ s. s.now) other.entry) }
 {
     let mut games = BTreeSet::new(alloc);

@@ -9,7 +9,7 @@ ghost use Rattle.record_audit.specs.Findings.{refused_record};
 ghost use Rattle.game_status.specs.Comparisons.{compared_words};
 ghost use Rattle.arbiter_server.specs.GameFiles.{line_number};
 ghost use Rattle.game_status.specs.Entries.{fault_words, listed_fault_words};
-ghost use Rattle.game_status.specs.Statuses.{fault_line, game_told_by, kept_words, line_of_one, line_of_two, other_fault_line};
+ghost use Rattle.game_status.specs.Statuses.{columns_of_two, fault_line, game_told_by, kept_words, line_of_one, line_of_two, other_fault_line};
 
 use crate::comparing::{Compared, mark_of, mark_of_two};
 use crate::entry::EntryFault;
@@ -164,7 +164,7 @@ fn add_column(line: &mut LineWords, kept: &Option<Record>)
 
 /// A line of a game of two folders, to its name.
 fn columns(stamp: Stamp, one: &Side, other: &Side, compared: Compared) -> LineWords
-    ensures is { result ≡ encode_lower stamp ++ codes " " ++ kept_words one.now.kept ++ codes " " ++ kept_words other.now.kept ++ codes " " ++ compared_words compared }
+    ensures is { result ≡ columns_of_two stamp one.now.kept other.now.kept compared }
     ensures size { length result ≤ 185 }
 {
     let mut line = stamped(stamp);

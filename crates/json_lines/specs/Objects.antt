@@ -101,6 +101,10 @@ position_members p probed verdict =
     (member (codes "insufficient_material") (boolean (has_insufficient_material p)) no_members))))))))
     (error_members probed)
 
+-- so it is of what is told of a position
+abbrev pub members_told : PositionTold → Members
+members_told told = position_members told.position told.columns.probed told.columns.verdict
+
 -- the position after a legal move: what the probes tell of it, from the view of its side to move, and how it ends the game
 abbrev pub value_members : MoveTold → Members
 value_members t =
@@ -118,11 +122,15 @@ standing_members t =
     member (codes "check") (boolean (is_in_check t.after.men t.after.side))
     (member (codes "insufficient_material") (boolean (has_insufficient_material t.after)) no_members)
 
+-- these, and why a value is missing
+abbrev pub standing_with_error : MoveTold → Members
+standing_with_error t = followed_by (standing_members t) (error_members t.probed)
+
 -- these, with the move in standard algebraic notation between, and why a value is missing
 abbrev pub after_members : MoveTold → Members
 after_members t =
     followed_by (value_members t)
-    (member (codes "san") (string t.san.bytes) (followed_by (standing_members t) (error_members t.probed)))
+    (member (codes "san") (string t.san.bytes) (standing_with_error t))
 
 abbrev pub move_members : MoveTold → Members
 move_members t = member (codes "uci") (string (move_text t.played)) (after_members t)

@@ -2,14 +2,14 @@
 
 ghost use Rattle.std.specs.Prelude.{◌≡◌, ◌++◌, ◌∷◌, ◌<◌, [], Bool, false, true, codes, length, Some, OnOk};
 ghost use Rattle.std.specs.Io.KnownBytes.{Appends};
-ghost use Rattle.json.specs.Json.{array, document, member, no_members, object, string};
+ghost use Rattle.json.specs.Json.{array, document, member, object, string};
 ghost use Rattle.json.specs.Token.{begin_array, begin_object, end_array, end_object, key};
 ghost use Rattle.json.specs.Tree.{json_tokens};
-ghost use Rattle.json_lines.specs.Inside.Members.{Writes, members_of, open_items, open_tokens, value_json};
+ghost use Rattle.json_lines.specs.Inside.Members.{Writes, error_object, error_tokens, members_of, open_items, open_object, open_tokens, value_json};
 ghost use Rattle.fen_text.specs.Coordinates.{move_text};
 ghost use Rattle.judge_core.specs.Words.{probe_fault_words};
 ghost use Rattle.place_index.specs.Material.{men_of, name_of};
-ghost use Rattle.json_lines.specs.Objects.{after_members, category, category_of, error_members, fen_error, first_probe_fault, followed_by, is_stalemate, json_text, line_json, move_json, move_members, moves_items, number_or_null, position_json, position_members, root_json, standing_members, value_members, verdict_or_null};
+ghost use Rattle.json_lines.specs.Objects.{after_members, category, category_of, error_members, fen_error, first_probe_fault, followed_by, is_stalemate, json_text, line_json, members_told, move_json, move_members, moves_items, number_or_null, position_json, root_json, standing_with_error, value_members, verdict_or_null};
 
 use crate::members::{Member, Value, put_comma, put_key, put_member, put_members};
 use crate::text::put;
@@ -101,7 +101,7 @@ fn put_fault_of_table<W: Write>(
     name: &str,
     material: Material,
 ) -> Result<(), WriteFault>
-    ensures { OnOk result (Writes true (key (codes "error") ∷ json_tokens (string (name.now ++ name_of (men_of material)))) (W.contents out.old) (W.contents out.new)) }
+    ensures { OnOk result (Writes true (error_tokens (name.now ++ name_of (men_of material))) (W.contents out.old) (W.contents out.new)) }
 {
     let table = material.name();
     let member = Member {
@@ -178,7 +178,7 @@ pub(crate) fn put_facts<W: Write>(
     probed: &ProbeResult,
 ) -> Result<(), WriteFault>
     requires { 0 < length members.now }
-    ensures { OnOk result (Writes false (begin_object ∷ open_tokens (followed_by (members_of members.now) (error_members probed.now))) (W.contents out.old) (W.contents out.new)) }
+    ensures { OnOk result (Writes false (open_object (followed_by (members_of members.now) (error_members probed.now))) (W.contents out.old) (W.contents out.new)) }
 {
     match put_begin(out, false) {
         Ok(()) => put_told(out, false, members, probed),
@@ -195,7 +195,7 @@ pub(crate) fn member<'a>(name: &'static str, value: Value<'a>) -> Member<'a>
 
 /// Writes the object of a position but for its closing brace.
 fn put_position<W: Write>(out: &mut W, told: &PositionTold) -> Result<(), WriteFault>
-    ensures { OnOk result (Writes false (begin_object ∷ open_tokens (position_members told.now.position told.now.columns.probed told.now.columns.verdict)) (W.contents out.old) (W.contents out.new)) }
+    ensures { OnOk result (Writes false (open_object (members_told told.now)) (W.contents out.old) (W.contents out.new)) }
 {
     let fen = write(&told.position);
     let state = BoardState::of(&told.position);
@@ -262,7 +262,7 @@ pub(crate) fn put_san<W: Write>(out: &mut W, told: &MoveTold) -> Result<(), Writ
 
 /// Writes how the position after a move stands on the board, and why a value of it is missing, where one is.
 fn put_standing<W: Write>(out: &mut W, told: &MoveTold) -> Result<(), WriteFault>
-    ensures { OnOk result (Writes true (open_tokens (followed_by (standing_members told.now) (error_members told.now.probed))) (W.contents out.old) (W.contents out.new)) }
+    ensures { OnOk result (Writes true (open_tokens (standing_with_error told.now)) (W.contents out.old) (W.contents out.new)) }
 {
     let members = [
         member("check", Value::Boolean(told.after.in_check())),
@@ -383,7 +383,7 @@ pub(crate) fn fen_error<'a>(fault: &FenFault) -> Value<'a>
 
 /// Writes an object that says why there is no answer.
 pub(crate) fn put_error_alone<W: Write>(out: &mut W, value: Value<'_>) -> Result<(), WriteFault>
-    ensures { OnOk result (Writes false (json_tokens (object (member (codes "error") (value_json value.entry) no_members))) (W.contents out.old) (W.contents out.new)) }
+    ensures { OnOk result (Writes false (json_tokens (error_object (value_json value.entry))) (W.contents out.old) (W.contents out.new)) }
 {
     let member = Member {
         name: "error",

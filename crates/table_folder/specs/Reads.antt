@@ -18,11 +18,15 @@ use Rattle.task_files.specs.TableReads.{ListsTables, ReadsTable, table_read}
 use Rattle.timeline.specs.Events.{Event, FileRead, Passes}
 use Rattle.table_folder.specs.declared.fault.FileFault.TheVariants.{Missing, Unreadable}
 use Rattle.table_folder.specs.declared.fault.FileRefusal.{FileRefusal}
-use Rattle.table_folder.specs.Folders.{Folder, Found, digest_in, found_in}
+use Rattle.table_folder.specs.Folders.{Folder, FolderOn, Found, digest_in, found_in}
 
 -- from one moment to a later one some events came, of which this is so
 abbrev pub PassesSome : Option (List Event) → Option (List Event) → (List Event → Type 0) → Type 0
 PassesSome old new Made = (more : List Event) × Passes old new more × Made more
+
+-- so it is of a folder's disk, whose log and facts are these
+abbrev pub PassesThere : {D L : Type 0} → (D → L → Option (List Event)) → (D → DiskFacts) → FolderOn D → L → L → (DiskFacts → Folder → List Event → Type 0) → Type 0
+PassesThere events facts at before after By = PassesSome (events at.disk before) (events at.disk after) (By (facts at.disk) at.folder)
 
 -- ---- opening a folder
 
@@ -89,3 +93,7 @@ pub record OpensTables (disk : DiskFacts) (folder : Folder) (old new : Tables) (
   pub last : List Event
   pub ends : ReadsLast disk folder new refused last
   pub made : more ≡ map (table_read folder.path) files ++ last
+
+-- from one moment of a folder's log to a later one its tables are opened so, or what comes of that is refused
+abbrev pub OpensThere : {D L : Type 0} → (D → L → Option (List Event)) → (D → DiskFacts) → FolderOn D → L → L → Tables → Tables → Result (Option FileRefusal) AllocError → Type 0
+OpensThere events facts at before after old new refused = PassesThere events facts at before after (λ disk folder. OpensTables disk folder old new refused)

@@ -9,7 +9,7 @@ ghost use Rattle.table_file.specs.Names.{file_name};
 ghost use Rattle.table_file.specs.Tables.{contents_at};
 ghost use Rattle.table_folder.specs.Folders.{HasTable, IsFolderAt, Says, digest_in, found_in, found_table};
 ghost use Rattle.table_folder.specs.Inside.{folder_of};
-ghost use Rattle.table_folder.specs.Reads.{LooksAt, OpensFolder, PassesSome};
+ghost use Rattle.table_folder.specs.Reads.{LooksAt, OpensFolder, PassesSome, PassesThere};
 
 use crate::fault::FileFault;
 use crate::files::TableFiles;
@@ -222,7 +222,7 @@ impl<'r, F: TableFiles> TableFolder<'r, F> {
         material: &Material,
     ) -> Result<Result<Table<'r>, FileFault>, AllocError>
         ensures says { IfOk result (Says (F.facts self.now.disk) self.now.folder (file_name kind material.now)) }
-        ensures made { PassesSome (F.events self.now.disk log.old) (F.events self.now.disk log.new) (LooksAt (F.facts self.now.disk) self.now.folder (file_name kind material.now) result) }
+        ensures made { PassesThere F.events F.facts self.now log.old log.new (λ disk folder. LooksAt disk folder (file_name kind material.now) result) }
     {
         match self.listed(file_name(kind, material).as_str()) {
             Some(listed) => self.table_of(log, alloc, listed),

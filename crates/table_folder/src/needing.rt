@@ -4,7 +4,7 @@ ghost use Rattle.std.specs.Prelude.{◌≡◌, IfOk, IfErr};
 ghost use Rattle.judge_core.specs.MoreTables.{HasAll};
 ghost use Rattle.table_folder.specs.Folders.{AreOf};
 ghost use Rattle.table_folder.specs.Settled.{AddsOnlyMissed, AreSettled, IsAlone, IsRefusedAt, IsRefusedFor, IsSettled, IsWithMoves};
-ghost use Rattle.table_folder.specs.Reads.{OpensTables, PassesSome, refusal_of};
+ghost use Rattle.table_folder.specs.Reads.{OpensThere, refusal_of};
 
 use crate::fault::FileRefusal;
 use crate::files::TableFiles;
@@ -32,7 +32,7 @@ impl<'r, F: TableFiles> TableFolder<'r, F> {
         ensures only { AddsOnlyMissed (F.facts self.now.disk) self.now.folder (IsAlone position.now) set.old.tables set.new.tables }
         ensures settled { IfOk result (λ settled. IfOk settled (λ _. IsSettled self.now.folder set.new.tables position.now)) }
         ensures refused { IfOk result (λ settled. IfErr settled (IsRefusedAt (F.facts self.now.disk) self.now.folder position.now)) }
-        ensures made { PassesSome (F.events self.now.disk log.old) (F.events self.now.disk log.new) (OpensTables (F.facts self.now.disk) self.now.folder set.old.tables set.new.tables (refusal_of result)) }
+        ensures made { OpensThere F.events F.facts self.now log.old log.new set.old.tables set.new.tables (refusal_of result) }
         ensures cache { set.new.cache ≡ set.old.cache }
     {
         if is_out_of_scope(position) {
@@ -58,7 +58,7 @@ impl<'r, F: TableFiles> TableFolder<'r, F> {
         ensures only { AddsOnlyMissed (F.facts self.now.disk) self.now.folder (IsWithMoves position.now) set.old.tables set.new.tables }
         ensures settled { IfOk result (λ settled. IfOk settled (λ _. AreSettled self.now.folder set.new.tables (IsWithMoves position.now))) }
         ensures refused { IfOk result (λ settled. IfErr settled (IsRefusedFor (F.facts self.now.disk) self.now.folder (IsWithMoves position.now))) }
-        ensures made { PassesSome (F.events self.now.disk log.old) (F.events self.now.disk log.new) (OpensTables (F.facts self.now.disk) self.now.folder set.old.tables set.new.tables (refusal_of result)) }
+        ensures made { OpensThere F.events F.facts self.now log.old log.new set.old.tables set.new.tables (refusal_of result) }
         ensures cache { set.new.cache ≡ set.old.cache }
     {
         more_tables_answer_the_same();

@@ -9,7 +9,7 @@ ghost use Rattle.table_file.specs.declared.kind.TableKind.{TableKind};
 ghost use Rattle.table_folder.specs.Folders.{AreOf, HasTable};
 ghost use Rattle.table_folder.specs.Settled.{AddsOnlyMissed, ComesInTurn, IsAlone, IsRefusedAt, IsSettled};
 ghost use Rattle.table_folder.specs.Inside.{AddsTable, IsLook, IsRefusalOf, MissesBy, looked};
-ghost use Rattle.table_folder.specs.Reads.{OpensTables, PassesSome, refusal_of};
+ghost use Rattle.table_folder.specs.Reads.{OpensThere, refusal_of};
 
 use crate::fault::FileRefusal;
 use crate::files::TableFiles;
@@ -105,11 +105,11 @@ impl<'r, F: TableFiles> TableFolder<'r, F> {
         requires lacks { table_at set.old.tables missing.kind missing.material ≡ None }
         requires slots { length set.old.tables ≡ 290 }
         ensures known { missing.material < 145 }
-        ensures added { IfOk result (λ added. IfOk added (λ _. AddsTable (F.facts self.now.disk) self.now.folder set.old.tables set.new.tables missing.kind missing.material)) }
+        ensures added { IfOk result (λ a. IfOk a (λ _. AddsTable (F.facts self.now.disk) self.now.folder set.old.tables set.new.tables missing.kind missing.material)) }
         ensures refused { IfOk result (λ added. IfErr added (IsRefusalOf (F.facts self.now.disk) self.now.folder missing.kind missing.material)) }
         ensures unchanged { IfOk result (λ added. IfErr added (λ _. set.new ≡ set.old)) }
         ensures memory { OnErr result (set.new ≡ set.old) }
-        ensures made { PassesSome (F.events self.now.disk log.old) (F.events self.now.disk log.new) (OpensTables (F.facts self.now.disk) self.now.folder set.old.tables set.new.tables (refusal_of result)) }
+        ensures made { OpensThere F.events F.facts self.now log.old log.new set.old.tables set.new.tables (refusal_of result) }
         ensures cache { set.new.cache ≡ set.old.cache }
     {
         names_differ();
@@ -139,7 +139,7 @@ impl<'r, F: TableFiles> TableFolder<'r, F> {
         requires { AreOf (F.facts self.now.disk) self.now.folder set.old.tables }
         ensures look { IfOk result (IsLook (F.facts self.now.disk) self.now.folder set.old.tables set.new.tables position.now) }
         ensures memory { OnErr result (set.new ≡ set.old) }
-        ensures made { PassesSome (F.events self.now.disk log.old) (F.events self.now.disk log.new) (OpensTables (F.facts self.now.disk) self.now.folder set.old.tables set.new.tables (looked result)) }
+        ensures made { OpensThere F.events F.facts self.now log.old log.new set.old.tables set.new.tables (looked result) }
         ensures cache { set.new.cache ≡ set.old.cache }
     {
         adding_keeps_the_rest();
@@ -172,7 +172,7 @@ impl<'r, F: TableFiles> TableFolder<'r, F> {
         ensures verdict { IfOk result (λ settled. IfOk settled (λ columns. columns.verdict ≡ ruling set.new.tables position.now)) }
         ensures settled { IfOk result (λ settled. IfOk settled (λ _. IsSettled self.now.folder set.new.tables position.now)) }
         ensures refused { IfOk result (λ settled. IfErr settled (IsRefusedAt (F.facts self.now.disk) self.now.folder position.now)) }
-        ensures made { PassesSome (F.events self.now.disk log.old) (F.events self.now.disk log.new) (OpensTables (F.facts self.now.disk) self.now.folder set.old.tables set.new.tables (refusal_of result)) }
+        ensures made { OpensThere F.events F.facts self.now log.old log.new set.old.tables set.new.tables (refusal_of result) }
         ensures cache { set.new.cache ≡ set.old.cache }
     {
         loop {

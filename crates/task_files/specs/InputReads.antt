@@ -13,11 +13,15 @@ use Rattle.task_files.specs.Given.{Given}
 use Rattle.task_files.specs.Sources.{LacksKept, Named, most_kept}
 use Rattle.task_files.specs.TableReads.{ReadsFolder}
 use Rattle.timeline.specs.Events.{Event, FileRead, InputRead}
-use Rattle.timeline.specs.Outsides.{Outside}
+use Rattle.timeline.specs.Outsides.{AddsSome, Outside}
 
 -- a reading: what it gave, or its fault, by the events that came
 abbrev pub Reading : Type 0 → Type 1
 Reading A = Result A ReadFault → List Event → Type 0
+
+-- from one moment to a later one the events of such a reading came, by what folders list and files hold
+abbrev pub AddsRead : {T P F K S L A : Type 0} → Outside T P F K S L → T → T → (DiskFacts → Reading A) → Result A ReadFault → Type 0
+AddsRead o before after By result = AddsSome o before after (By o.disk result)
 
 -- nothing more is read for this
 abbrev pub Gives : {A : Type 0} → A → Reading A
@@ -84,6 +88,9 @@ pub record TextsRead : Type 0 where
 
 abbrev pub ReadsTexts : DiskFacts → InputFacts → Named → Reading TextsRead
 ReadsTexts disk input n = Then (ReadsInput input n.input) (λ text. Then (ReadsKept disk n.kept) (λ kept. Then (ReadsKept disk n.other_kept) (λ other. Gives (record { input = text; kept = kept; other_kept = other }))))
+
+abbrev pub ReadsTextsOf : {T P F K S L : Type 0} → Outside T P F K S L → Named → Reading TextsRead
+ReadsTextsOf o n = ReadsTexts o.disk o.input n
 
 abbrev pub given_by : Held → TextsRead → Given
 given_by held texts = record { files = held.files; told = told_by held.manifest; input = texts.input; kept = texts.kept; other_kept = texts.other_kept }

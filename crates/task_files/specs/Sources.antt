@@ -1,5 +1,6 @@
 -- What is read for a task (this project's own).
 use Rattle.std.specs.Prelude.{◌≡◌, ◌≤◌, ◌⊎◌, ◌||◌, ℕ, Bool, true, false, List, [], length, Option, Some, None, is_some, option_map}
+use Rattle.std.specs.Borrow.{Bor}
 use Rattle.task_files.specs.declared.sources.InputPaths.{InputPaths}
 use Rattle.move_msg.specs.ToldManifests.{ToldManifest}
 use Rattle.task_files.specs.Given.{Given}
@@ -14,6 +15,10 @@ pub record Named : Type 0 where
   pub input : Bool
   pub kept : Option (List ℕ)
   pub other_kept : Option (List ℕ)
+
+-- the path of a place, where one is named
+abbrev pub path_named : Option (Bor (List ℕ)) → Option (List ℕ)
+path_named place = option_map (λ s. s.now) place
 
 abbrev pub nothing : Named
 nothing = record { folder = None; manifest = None; input = false; kept = None; other_kept = None }

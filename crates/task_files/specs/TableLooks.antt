@@ -70,3 +70,7 @@ pub record LooksAt {L : Type 0} (IsMadeOf : L → File → Type 0) (Reads : Read
   pub made : AreKeptOf IsMadeOf kept files
   pub order : IfOk files AreFiles
   pub reads : Reads files events
+
+-- so it is of the files of a folder that a manifest wants
+abbrev pub LooksThere : {L : Type 0} → (L → File → Type 0) → List ℕ → Manifest → Bool → DiskFacts → Reading (List L)
+LooksThere IsMadeOf folder manifest progress disk = LooksAt IsMadeOf (LooksInFolder disk folder manifest progress)

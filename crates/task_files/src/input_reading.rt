@@ -2,9 +2,9 @@
 
 ghost use Rattle.std.specs.Prelude.{[], map, option_map, IfOk};
 ghost use Rattle.move_msg.specs.Files.{AreFiles, table_file_of};
-ghost use Rattle.task_files.specs.InputReads.{ReadsGiven, ReadsHeld, ReadsInput, ReadsKept, ReadsLines, ReadsManifest, ReadsTexts, ReadsWanted};
+ghost use Rattle.task_files.specs.InputReads.{AddsRead, ReadsGiven, ReadsHeld, ReadsInput, ReadsKept, ReadsLines, ReadsManifest, ReadsTextsOf, ReadsWanted};
 ghost use Rattle.task_files.specs.Inside.Readings.{held_taken, texts_taken};
-ghost use Rattle.task_files.specs.Sources.{named_by};
+ghost use Rattle.task_files.specs.Sources.{named_by, path_named};
 ghost use Rattle.task_files.specs.TableReads.{taken};
 ghost use Rattle.timeline.specs.Events.{bytes_read};
 ghost use Rattle.timeline.specs.Outsides.{AddsSome};
@@ -53,7 +53,7 @@ fn wanted_files<S: System>(
     folder: Option<&str>,
     manifest: &Manifest,
 ) -> Result<Vec<NamedFile>, ReadFault>
-    ensures reads { AddsSome (S.outside system.now) timeline.old timeline.new (ReadsWanted (S.outside system.now).disk (option_map (λ s. s.now) folder.entry) manifest.now (taken result)) }
+    ensures reads { AddsRead (S.outside system.now) timeline.old timeline.new (λ d. ReadsWanted d (path_named folder.entry) manifest.now) (taken result) }
     ensures files { IfOk result (λ files. AreFiles (map table_file_of files.items)) }
 {
     match folder {
@@ -112,7 +112,7 @@ fn read_kept<S: System>(
     timeline: &mut S::Timeline,
     path: Option<&str>,
 ) -> Result<Vec<u8>, ReadFault>
-    ensures { AddsSome (S.outside system.now) timeline.old timeline.new (ReadsKept (S.outside system.now).disk (option_map (λ s. s.now) path.entry) (bytes_read result)) }
+    ensures { AddsRead (S.outside system.now) timeline.old timeline.new (λ d. ReadsKept d (path_named path.entry)) (bytes_read result) }
 {
     match path {
         None => Ok(Vec::new(alloc)),
@@ -127,7 +127,7 @@ fn read_texts<S: System>(
     timeline: &mut S::Timeline,
     places: &InputPaths,
 ) -> Result<Texts, ReadFault>
-    ensures { AddsSome (S.outside system.now) timeline.old timeline.new (ReadsTexts (S.outside system.now).disk (S.outside system.now).input (named_by places.now) (texts_taken result)) }
+    ensures { AddsSome (S.outside system.now) timeline.old timeline.new (ReadsTextsOf (S.outside system.now) (named_by places.now) (texts_taken result)) }
 {
     let input = match read_input(alloc, system, timeline, places.reads_input) {
         Ok(input) => input,

@@ -9,7 +9,7 @@ ghost use Rattle.task_files.specs.FileNames.{AreRisingNames};
 ghost use Rattle.move_msg.specs.ToldBy.{told_by};
 ghost use Rattle.system_io.specs.Disks.{AtFile};
 ghost use Rattle.task_files.specs.Outside.{AreFilesIn, AreNamesIn, AreWantedOf, CannotList, FolderFails, IsAtItsPath, IsWanted, ListsTwice, path_in};
-ghost use Rattle.task_files.specs.Made.{AreMadeOf};
+ghost use Rattle.task_files.specs.Made.{AreMadeIn, AreMadeOf};
 ghost use Rattle.task_files.specs.Inside.Reading.{AreLooksAt};
 ghost use Rattle.task_files.specs.Inside.Placing.{IsNamePlace, AddsName};
 
@@ -223,7 +223,7 @@ pub fn looks_in<D: Disk, L: TableRequest>(
     folder: &str,
     manifest: &Manifest,
 ) -> Result<Vec<L>, ReadFault>
-    ensures ok { IfOk result (λ looks. (files : List File) × AreFilesIn (D.facts disk.now) folder.now (told_by manifest.now) files × AreFiles files × AreMadeOf L.made_of looks.items files) }
+    ensures ok { IfOk result (λ looks. AreMadeIn L.made_of (D.facts disk.now) folder.now (told_by manifest.now) looks.items) }
     ensures cause { IsErrOf result ReadFault.Unreadable → FolderFails (D.facts disk.now) folder.now (told_by manifest.now) }
 {
     let wanted = match names_in(alloc, disk, folder, manifest) {

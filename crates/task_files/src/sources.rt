@@ -5,7 +5,7 @@ ghost use Rattle.move_msg.specs.Files.{AreFiles, table_file_of};
 ghost use Rattle.move_msg.specs.ToldBy.{told_by};
 ghost use Rattle.system_io.specs.Disks.{AtFile};
 ghost use Rattle.task_files.specs.Outside.{AreFilesAt, FolderFails, IsToldAt};
-ghost use Rattle.task_files.specs.Sources.{AreTexts, CannotRead, IsGiven, IsInputAt, IsKeptAt, LacksKept, TakesMemory, named_by, nothing, reads_some};
+ghost use Rattle.task_files.specs.Sources.{AreTexts, CannotRead, IsGiven, IsInputAt, IsKeptAt, LacksKept, TakesMemory, named_by, nothing, path_named, reads_some};
 
 use crate::reading::files_in;
 use move_msg::{Manifest, NamedFile};
@@ -97,9 +97,9 @@ fn read_folder<D: Disk>(
     folder: Option<&str>,
     manifest: &Manifest,
 ) -> Result<Vec<NamedFile>, ReadFault>
-    ensures ok { IfOk result (λ files. AreFilesAt (D.facts disk.now) (option_map (λ s. s.now) folder.entry) (told_by manifest.now) (map table_file_of files.items)) }
+    ensures ok { IfOk result (λ files. AreFilesAt (D.facts disk.now) (path_named folder.entry) (told_by manifest.now) (map table_file_of files.items)) }
     ensures files { IfOk result (λ files. AreFiles (map table_file_of files.items)) }
-    ensures cause { IsErrOf result ReadFault.Unreadable → (f : List ℕ) × (option_map (λ s. s.now) folder.entry ≡ Some f) × FolderFails (D.facts disk.now) f (told_by manifest.now) }
+    ensures cause { IsErrOf result ReadFault.Unreadable → (f : _) × (path_named folder.entry ≡ Some f) × FolderFails (D.facts disk.now) f (told_by manifest.now) }
     ensures some { OnErr result (is_some folder.entry ≡ true) }
 {
     match folder {
@@ -149,7 +149,7 @@ fn read_texts<D: Disk, I: Input>(
     input: &I,
     places: &InputPaths,
 ) -> Result<Texts, ReadFault>
-    ensures ok { IfOk result (λ texts. AreTexts (D.facts disk.now) (I.facts input.now) (named_by places.now) texts.input.items texts.kept.items texts.other_kept.items) }
+    ensures ok { IfOk result (λ t. AreTexts (D.facts disk.now) (I.facts input.now) (named_by places.now) t.input.items t.kept.items t.other_kept.items) }
     ensures cause { IsErrOf result ReadFault.Unreadable → CannotRead (D.facts disk.now) (I.facts input.now) (named_by places.now) }
     ensures some { OnErr result (reads_some (named_by places.now) ≡ true) }
     ensures memory { IsErrOf result ReadFault.OutOfMemory → TakesMemory (I.facts input.now) (named_by places.now) }

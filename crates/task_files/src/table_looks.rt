@@ -2,8 +2,9 @@
 
 ghost use Rattle.std.specs.Prelude.{◌≡◌, length};
 ghost use Rattle.task_files.specs.Inside.Readings.{Looks, looks_taken};
-ghost use Rattle.task_files.specs.TableLooks.{LooksAt, LooksInFolder, MaySayProgress, ReadsInTurn, SaysProgress, counted, progress_words};
+ghost use Rattle.task_files.specs.TableLooks.{LooksThere, MaySayProgress, ReadsInTurn, SaysProgress, counted, progress_words};
 ghost use Rattle.move_msg.specs.TextLines.{ended};
+ghost use Rattle.task_files.specs.InputReads.{AddsRead};
 ghost use Rattle.timeline.specs.Outsides.{AddsSome};
 
 use crate::file_name::FileName;
@@ -72,7 +73,7 @@ fn look_at_each<S: System, L: TableRequest>(
     names: &[FileName],
     progress: bool,
 ) -> Result<Vec<L>, ReadFault>
-    ensures { AddsSome (S.outside system.now) timeline.old timeline.new (Looks L.made_of (ReadsInTurn (S.outside system.now).disk folder.now progress names.now) (looks_taken result)) }
+    ensures { AddsRead (S.outside system.now) timeline.old timeline.new (λ d. Looks L.made_of (ReadsInTurn d folder.now progress names.now)) (looks_taken result) }
 {
     let mut looks = Vec::new(alloc);
     let mut count: u64 = 0;
@@ -108,7 +109,7 @@ pub fn look_at_tables<S: System, L: TableRequest>(
     manifest: &Manifest,
     progress: bool,
 ) -> Result<Vec<L>, ReadFault>
-    ensures { AddsSome (S.outside system.now) timeline.old timeline.new (LooksAt L.made_of (LooksInFolder (S.outside system.now).disk folder.now manifest.now progress) (looks_taken result)) }
+    ensures { AddsRead (S.outside system.now) timeline.old timeline.new (LooksThere L.made_of folder.now manifest.now progress) (looks_taken result) }
 {
     match list_tables(alloc, system, timeline, folder, manifest) {
         Ok(wanted) => look_at_each(alloc, system, timeline, folder, &wanted, progress),

@@ -23,11 +23,15 @@ report_by true json = Some Metrics
 report_by false true = Some Json
 report_by false false = None
 
+-- so it is by the values of its arguments
+abbrev pub report_told : (Text → Option Text) → Option ReportForm
+report_told value = report_by (is_set (value (codes "prometheus"))) (is_set (value (codes "json")))
+
 -- the values of its arguments
 abbrev pub HasValues : (Text → Option Text) → ShowStatus → Type 0
 HasValues value t =
     (Some t.games.now ≡ value (codes "games")) × (option_map (λ s. s.now) t.other ≡ value (codes "other"))
-    × (t.report ≡ report_by (is_set (value (codes "prometheus"))) (is_set (value (codes "json"))))
+    × (t.report ≡ report_told value)
 
 -- what may be wrong with its values, in the order in which it is told
 abbrev pub faults : List Fault

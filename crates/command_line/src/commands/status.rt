@@ -2,7 +2,7 @@
 
 ghost use Rattle.std.specs.Prelude.{◌≡◌, IfErr, IfOk, OnOk, codes};
 ghost use Rattle.clap.specs.Words.{first_value, found_of};
-ghost use Rattle.command_line.specs.Commands.Status.{HasValues, faults, report_by};
+ghost use Rattle.command_line.specs.Commands.Status.{HasValues, faults, report_told};
 ghost use Rattle.command_line.specs.declared.words.usage.Instead.TheVariants.{Prometheus};
 ghost use Rattle.command_line.specs.Misuses.{IsFirstMisuse, IsToldMisuse, Holds, FlagNotWith, fault_words};
 ghost use Rattle.command_line.specs.Numbers.{is_set};
@@ -71,7 +71,7 @@ fn report_of(metrics: bool, json: bool) -> Option<ReportForm>
 
 /// As which report it is shown, by the words; not as both.
 fn report_in<'a>(matches: &ArgMatches<'a>) -> Result<Option<ReportForm>, ValueFault<'a>>
-    ensures ok { IfOk result (λ report. report ≡ report_by (is_set (first_value (found_of matches.now) (codes "prometheus"))) (is_set (first_value (found_of matches.now) (codes "json")))) }
+    ensures ok { IfOk result (λ report. report ≡ report_told (first_value (found_of matches.now))) }
     ensures well { OnOk result (Holds (first_value (found_of matches.now)) (FlagNotWith Prometheus (codes "json")) → ⊥) }
     ensures err { IfErr result (λ fault. IsToldMisuse (first_value (found_of matches.now)) (FlagNotWith Prometheus (codes "json")) (fault_words fault)) }
 {
