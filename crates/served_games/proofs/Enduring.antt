@@ -31,7 +31,7 @@ use Rattle.served_games.proofs.Lasting.{each_lasts}
 
 -- ---- acts
 
-over_fresh : (before : PlaceKeeper) (acts : Acts) → AreOverLeft (Shut before) acts → AreOverLeft Fresh acts
+pub over_fresh : (before : PlaceKeeper) (acts : Acts) → AreOverLeft (Shut before) acts → AreOverLeft Fresh acts
 over_fresh before [] h = tt
 over_fresh before (Unread datagram fault ∷ acts) h = (tt, over_fresh before acts h.1)
 over_fresh before (Strange of datagram tried why ∷ acts) h = (tt, over_fresh before acts h.1)
@@ -59,7 +59,7 @@ module _ (Q : Event → Type 0) (stamp : List ℕ) where
   for_one h true q = q
   for_one h false q = tt
 
-  for_made : (hs : List Heard) → AllByRecursion Q (flat_map made_of hs) → AllByRecursion Q (flat_map (made_for stamp) hs)
+  pub for_made : (hs : List Heard) → AllByRecursion Q (flat_map made_of hs) → AllByRecursion Q (flat_map (made_for stamp) hs)
   for_made [] q = tt
   for_made (h ∷ hs) q =
       all_both Q (made_for stamp h) (flat_map (made_for stamp) hs) (for_one h (is_for stamp h) (all_first Q h.events (flat_map made_of hs) q)) (for_made hs (all_rest Q h.events (flat_map made_of hs) q))
@@ -77,14 +77,14 @@ module _ (Q : Event → Type 0) (stamp : List ℕ) where
       for_heard r.heard (all_first Q came ends (all_first Q (came ++ ends) (r.commits ++ round_sent to r.heard r.committed) q))
   for_deed to HearsNone q = tt
 
-  for_turns : (to : List Recipient) (turns : List Turn) → AllByRecursion Q (run_events to turns) → AllByRecursion Q (flat_map (made_for stamp) (heard_in_turns turns))
+  pub for_turns : (to : List Recipient) (turns : List Turn) → AllByRecursion Q (run_events to turns) → AllByRecursion Q (flat_map (made_for stamp) (heard_in_turns turns))
   for_turns to [] q = tt
   for_turns to (turn ∷ turns) q =
       let one = all_first Q (deed_events to turn.deed) turn.lines (all_first Q (turn_events to turn) (run_events to turns) q) in
       subst (AllByRecursion Q) (sym (flat_map-append (made_for stamp) (heard_by turn.deed) (heard_in_turns turns)))
       (all_both Q (flat_map (made_for stamp) (heard_by turn.deed)) (flat_map (made_for stamp) (heard_in_turns turns)) (for_deed to turn.deed one) (for_turns to turns (all_rest Q (turn_events to turn) (run_events to turns) q)))
 
-  for_run : {G F : Type 0} (r : ServedRun G F) → AllByRecursion Q (turned_of r) → AllByRecursion Q (flat_map (made_for stamp) (heard_in_run r))
+  pub for_run : {G F : Type 0} (r : ServedRun G F) → AllByRecursion Q (turned_of r) → AllByRecursion Q (flat_map (made_for stamp) (heard_in_run r))
   for_run r q =
       let all = run_events r.to r.turns in
       let rest = flat_map heard_events r.heard in
@@ -107,7 +107,7 @@ module _ {G : Type 0} (facts : GamesFacts G) (place : facts.Place) (t : CommonVi
   act_one old new made (Answers of e) events h m q = tt
   act_one old new made (Closes of left) events h m q = tt
 
-  all_one : (old new made : Life) (acts : Acts) (events : List Event) → Goes (place_keepers facts place) t stamp old acts new → MakesAll facts place stamp made acts events → AllByRecursion Q events → AllByRecursion (IsOfOne setup) acts
+  pub all_one : (old new made : Life) (acts : Acts) (events : List Event) → Goes (place_keepers facts place) t stamp old acts new → MakesAll facts place stamp made acts events → AllByRecursion Q events → AllByRecursion (IsOfOne setup) acts
   all_one old new made [] events h m q = tt
   all_one old new made (act ∷ acts) events h m q =
       let both : AllByRecursion Q (m.0 ++ m.1) = subst (AllByRecursion Q) m.2 q in
@@ -127,18 +127,18 @@ module _ {T P F K S L G : Type 0} (o : Outside T P F K S L) (facts : GamesFacts 
   abbrev at : KeptAt
   at = facts.places place stamp
 
-  abbrev GameIn : ServedRun G F → Type 0
+  abbrev pub GameIn : ServedRun G F → Type 0
   GameIn r = OpenedGame facts place (common r.old) stamp r.unasked (game_at r.begun stamp) (heard_in_run r)
 
   abbrev Happened : ServedRun G F → Event → Type 0
   Happened r = Contains (work_of r)
 
   -- what one run does, and leaves
-  record RunDone (before : PlaceKeeper) (past : List Event) (r : ServedRun G F) : Type 0 where
-    game : GameIn r
-    over : AreOverLeft Fresh (acts_in game)
-    ran : RanOver facts place stamp setup before (record { acts = acts_in game; left = left_by before game.life })
-    found : (found : Option (List ℕ)) → MayFind at stamp (behind past (events_of r)) found → Follows (left_by before game.life) (found_keeper found)
+  pub record RunDone (before : PlaceKeeper) (past : List Event) (r : ServedRun G F) : Type 0 where
+    pub game : GameIn r
+    pub over : AreOverLeft Fresh (acts_in game)
+    pub ran : RanOver facts place stamp setup before (record { acts = acts_in game; left = left_by before game.life })
+    pub found : (found : Option (List ℕ)) → MayFind at stamp (behind past (events_of r)) found → Follows (left_by before game.life) (found_keeper found)
 
   events_join : (past : List Event) (r : ServedRun G F) → behind past (events_of r) ≡ behind (behind (behind past r.first) (work_of r)) r.tail
   events_join past r = behind_join past r.first (work_of r ++ r.tail) ∙ behind_join (behind past r.first) (work_of r) r.tail
@@ -147,7 +147,7 @@ module _ {T P F K S L G : Type 0} (o : Outside T P F K S L) (facts : GamesFacts 
   abbrev DoneAt : PlaceKeeper → List Event → ServedRun G F → facts.Place → Type 0
   DoneAt before past r x = (game : OpenedGame facts x (common r.old) stamp r.unasked (game_at r.begun stamp) (heard_in_run r)) × AreOverLeft (Shut before) (acts_in game) × IsFoundIn (facts.places x stamp) stamp past before game.life
 
-  run_done : (before : PlaceKeeper) (past : List Event) (r : ServedRun G F) → IsServedRun o facts place stamp setup past r → IsDurableAfter at stamp past (events_of r) → ((found : Option (List ℕ)) → MayFind at stamp past found → Follows before (found_keeper found)) → RunDone before past r
+  pub run_done : (before : PlaceKeeper) (past : List Event) (r : ServedRun G F) → IsServedRun o facts place stamp setup past r → IsDurableAfter at stamp past (events_of r) → ((found : Option (List ℕ)) → MayFind at stamp past found → Follows before (found_keeper found)) → RunDone before past r
   run_done before past r is durable found = by f
     where
       a : List Event

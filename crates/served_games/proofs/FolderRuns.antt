@@ -38,7 +38,7 @@ module _ (path text : List ℕ) (work : List Event) (reads : AllByRecursion (Rea
   told_so told spells (Err read.OutOfMemory) other is happened = absurd (let f : ◌≡◌ {A = Result GameConfig OpenGameError} (Ok other) (Err unopened.OutOfMemory) = is in cc)
 
 module _ (folder stamp text : List ℕ) (work : List Event) (reads : AllByRecursion (ReadsAs (game_path folder stamp) text) work) where
-  found_so : (told : GameContents) (spells : SpellsGame text told) (other : GameConfig) (events : List Event) → FindsInFolder folder stamp (Ok other) events → AllByRecursion (Contains work) events → game_as_told other.name.items other.start other.delay ≡ told
+  pub found_so : (told : GameContents) (spells : SpellsGame text told) (other : GameConfig) (events : List Event) → FindsInFolder folder stamp (Ok other) events → AllByRecursion (Contains work) events → game_as_told other.name.items other.start other.delay ≡ told
   found_so told spells other events (HadNoPath why none) happened = absurd (let f : ◌≡◌ {A = Result GameConfig OpenGameError} (Ok other) (Err unopened.OutOfMemory) = why in cc)
   found_so told spells other events (Sought got short is one) happened =
       told_so (game_path folder stamp) text work reads told spells got other is (subst (AllByRecursion (Contains work)) one happened).0

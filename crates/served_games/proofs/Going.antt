@@ -33,7 +33,7 @@ pub left_rest : (a : Life) (xs ys : Acts) → AreOverLeft a (xs ++ ys) → AreOv
 left_rest a [] ys h = h
 left_rest a (x ∷ xs) ys h = left_rest (life_by a x) xs ys h.1
 
-leads_join : (a : Life) (xs ys : Acts) → life_through a (xs ++ ys) ≡ life_through (life_through a xs) ys
+pub leads_join : (a : Life) (xs ys : Acts) → life_through a (xs ++ ys) ≡ life_through (life_through a xs) ys
 leads_join a [] ys = refl
 leads_join a (x ∷ xs) ys = leads_join (life_by a x) xs ys
 

@@ -29,7 +29,7 @@ push_bytes : (b : Bool) (r : StoredRecord) (o : Option StoredRecord) → its_byt
 push_bytes true r o = refl
 push_bytes false r o = refl
 
-last_same : (records : Records) (entries : List Entry) (stamp : List ℕ) → its_bytes (with_all records entries stamp) ≡ last_among stamp (its_bytes (records stamp)) (map stamped entries)
+pub last_same : (records : Records) (entries : List Entry) (stamp : List ℕ) → its_bytes (with_all records entries stamp) ≡ last_among stamp (its_bytes (records stamp)) (map stamped entries)
 last_same records [] stamp = refl
 last_same records (e ∷ es) stamp =
     last_same (with_entry records e) es stamp ∙ ap (λ (l : Option (List ℕ)). last_among stamp l (map stamped es)) (push_bytes (bytes_eq e.stamp stamp) (entry_record e) (records stamp))
@@ -178,10 +178,10 @@ module _ {T P F K S L : Type 0} (o : Outside T P F K S L) (stamp : List ℕ) whe
   batch_may : (g : StoredGames S) (past : List Event) (found : Option (List ℕ)) → HasBatch (last_of stamp (map stamped g.noted)) found (InIt g past found) → May g past found
   batch_may g past found m = subst (λ (l : Option (List ℕ)). HasBatch l found (InIt g past found)) (batch_last g.noted stamp) m
 
-  done_may : (g : StoredGames S) (past : List Event) → FindsNoMore (InIt g (Committed (o.store_path g.store) (map stamped g.noted) true ∷ past)) (May g past)
+  pub done_may : (g : StoredGames S) (past : List Event) → FindsNoMore (InIt g (Committed (o.store_path g.store) (map stamped g.noted) true ∷ past)) (May g past)
   done_may g past found m = batch_may g past found (if_same (o.store_path g.store) (HasBatch (last_of stamp (map stamped g.noted)) found (InIt g past found)) (InIt g past found) m)
 
-  undone_may : (g : StoredGames S) (past : List Event) (found : Option (List ℕ)) → InIt g (Committed (o.store_path g.store) (map stamped g.noted) false ∷ past) found → May g past found ⊎ InIt g past found
+  pub undone_may : (g : StoredGames S) (past : List Event) (found : Option (List ℕ)) → InIt g (Committed (o.store_path g.store) (map stamped g.noted) false ∷ past) found → May g past found ⊎ InIt g past found
   undone_may g past found m = by (if_same (o.store_path g.store) (HasBatch (last_of stamp (map stamped g.noted)) found (InIt g past found) ⊎ InIt g past found) (InIt g past found) m)
     where
       by : HasBatch (last_of stamp (map stamped g.noted)) found (InIt g past found) ⊎ InIt g past found → May g past found ⊎ InIt g past found
@@ -189,10 +189,10 @@ module _ {T P F K S L : Type 0} (o : Outside T P F K S L) (stamp : List ℕ) whe
       by (inr old) = inr old
 
   -- nothing of the game is noted any more
-  none_noted : (now : StoredGames S) (past : List Event) → now.noted ≡ [] → FindsNoMore (May now past) (InIt now past)
+  pub none_noted : (now : StoredGames S) (past : List Event) → now.noted ≡ [] → FindsNoMore (May now past) (InIt now past)
   none_noted now past none found m = subst (λ (es : List Entry). HasBatch (last_noted es stamp) found (InIt now past found)) none m
 
-  all_noted : (g : StoredGames S) (past : List Event) → g.noted ≡ [] → FindsNoMore (InIt g past) (May g past)
+  pub all_noted : (g : StoredGames S) (past : List Event) → g.noted ≡ [] → FindsNoMore (InIt g past) (May g past)
   all_noted g past none found m = subst (λ (es : List Entry). HasBatch (last_noted es stamp) found (InIt g past found)) (sym none) m
 
   at_path : (g now : StoredGames S) (past : List Event) → o.store_path now.store ≡ o.store_path g.store → FindsNoMore (InIt now past) (InIt g past)
@@ -268,12 +268,17 @@ module _ {T P F K S L : Type 0} (o : Outside T P F K S L) (stamp : List ℕ) (g 
   lasts_so events past (LacksMemory may is one) = absurd (ok_is_no_err uncommitted.OutOfMemory is)
   lasts_so events past (LosesStore may is two) = absurd (ok_is_no_err uncommitted.StoreLost is)
 
-  breaks_so : (why : Uncommitted) (events past : List Event) → CommitsNoted (o.store_path g.store) g (Err why) events → (found : Option (List ℕ)) → MayFind (InStore (o.store_path g.store)) stamp (behind past events) found → MayTakeStored o g stamp past found ⊎ MayFind (InStore (o.store_path g.store)) stamp past found
+  with_fit : (past : List Event) (found : Option (List ℕ)) → g.loss ≡ None → MayTakeStored o g stamp past found ⊎ MayFind (InStore (o.store_path g.store)) stamp past found
+      → ((g.loss ≡ None) × MayTakeStored o g stamp past found) ⊎ MayFind (InStore (o.store_path g.store)) stamp past found
+  with_fit past found fit (inl may) = inl (fit, may)
+  with_fit past found fit (inr old) = inr old
+
+  breaks_so : (why : Uncommitted) (events past : List Event) → CommitsNoted (o.store_path g.store) g (Err why) events → (found : Option (List ℕ)) → MayFind (InStore (o.store_path g.store)) stamp (behind past events) found → ((g.loss ≡ None) × MayTakeStored o g stamp past found) ⊎ MayFind (InStore (o.store_path g.store)) stamp past found
   breaks_so why events past (CouldNot loss is told none) found m = inr (subst (λ (l : List Event). MayFind (InStore (o.store_path g.store)) stamp (behind past l) found) none m)
   breaks_so why events past (HadNone can noted is none) found m = absurd (ok_is_no_err why (sym is))
   breaks_so why events past (HasAll may is one) found m = absurd (ok_is_no_err why (sym is))
-  breaks_so why events past (LacksMemory may is one) found m = undone_may o stamp g past found (subst (λ (l : List Event). MayFind (InStore (o.store_path g.store)) stamp (behind past l) found) one m)
-  breaks_so why events past (LosesStore may is two) found m = undone_may o stamp g past found (subst (λ (l : List Event). MayFind (InStore (o.store_path g.store)) stamp (behind past l) found) two m)
+  breaks_so why events past (LacksMemory may is one) found m = with_fit past found may.0 (undone_may o stamp g past found (subst (λ (l : List Event). MayFind (InStore (o.store_path g.store)) stamp (behind past l) found) one m))
+  breaks_so why events past (LosesStore may is two) found m = with_fit past found may.0 (undone_may o stamp g past found (subst (λ (l : List Event). MayFind (InStore (o.store_path g.store)) stamp (behind past l) found) two m))
 
 ok_fit : {T P F K S L : Type 0} (o : Outside T P F K S L) (g : StoredGames S) (events : List Event) → CommitsNoted (o.store_path g.store) g (Ok tt) events → g.loss ≡ None
 ok_fit o g events (CouldNot loss is why none) = absurd (ok_err (loss_told loss) why)

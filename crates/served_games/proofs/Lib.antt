@@ -18,3 +18,9 @@ pub mod FolderRuns
 pub mod FileHistories
 pub mod InOrder
 pub mod Taking
+pub mod Choosing
+pub mod Noting
+pub mod Fronts
+pub mod StoreRuns
+pub mod FolderStores
+pub mod StoreHistories

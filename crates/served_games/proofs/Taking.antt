@@ -38,7 +38,7 @@ use Rattle.served_games.proofs.InTurn.{Look, LooksIn, MakesIn, MakesInTurn, NoLo
 use Rattle.served_games.proofs.Playing.{Next}
 use Rattle.served_games.proofs.Running.{StaysServer, played_one, same_game, stays_all, stays_by, stays_on, stays_one, turns_stay}
 
-found_less : (now was : Option (List ℕ) → Type 0) (before : PlaceKeeper) (life : Life) → FindsNoMore now was → FindsItsOwn was before life → FindsItsOwn now before life
+pub found_less : (now was : Option (List ℕ) → Type 0) (before : PlaceKeeper) (life : Life) → FindsNoMore now was → FindsItsOwn was before life → FindsItsOwn now before life
 found_less now was before Fresh less h = λ found m. h found (less found m)
 found_less now was before (Shut left) less h = λ found m. h found (less found m)
 found_less now was before (Open at) less h = λ found m. h found (less found m)
@@ -264,17 +264,17 @@ module _ {T P F K S L G : Type 0} (o : Outside T P F K S L) (facts : GamesFacts 
   kept_at = facts.places place stamp
 
   -- the server is there, with what all games have in common
-  record IsHere (server : Server G F) : Type 0 where
-    there : facts.place server.shared.games ≡ place
-    is : common server ≡ t
+  pub record IsHere (server : Server G F) : Type 0 where
+    pub there : facts.place server.shared.games ≡ place
+    pub is : common server ≡ t
 
-  here_on : (old new : Server G F) → StaysServer o facts old new → IsHere old → IsHere new
+  pub here_on : (old new : Server G F) → StaysServer o facts old new → IsHere old → IsHere new
   here_on old new s h = record { there = s.place ∙ h.there; is = s.common_is ∙ h.is }
 
-  abbrev FoundAt : Server G F → Life → List Event → Type 0
+  abbrev pub FoundAt : Server G F → Life → List Event → Type 0
   FoundAt server life past = IsFit server.shared.games → FindsItsOwn (May server.shared.games stamp past) before life
 
-  abbrev TakenOver : Life → List Heard → Server G F → List Event → Type 0
+  abbrev pub TakenOver : Life → List Heard → Server G F → List Event → Type 0
   TakenOver life hs new past = TakenGame facts place t stamp before life hs (game_at new stamp) (IsFit new.shared.games) (May new.shared.games stamp past)
 
   durable_at : (server : Server G F) → IsHere server → (past events : List Event) → IsDurableAfter kept_at stamp past events → IsDurableAfter (facts.places (facts.place server.shared.games) stamp) stamp past events
@@ -284,21 +284,21 @@ module _ {T P F K S L G : Type 0} (o : Outside T P F K S L) (facts : GamesFacts 
   aside_less : (server : Server G F) (past events : List Event) → ((at : KeptAt) → StaysFound at stamp past events) → FindsNoMore (May server.shared.games stamp (behind past events)) (May server.shared.games stamp past)
   aside_less server past events s = order.stays server.shared.games stamp events past (s (facts.places (facts.place server.shared.games) stamp))
 
-  on_aside : (life : Life) (hs : List Heard) (server : Server G F) (past events : List Event) → ((at : KeptAt) → StaysFound at stamp past events) → TakenOver life hs server past → TakenOver life hs server (behind past events)
+  pub on_aside : (life : Life) (hs : List Heard) (server : Server G F) (past events : List Event) → ((at : KeptAt) → StaysFound at stamp past events) → TakenOver life hs server past → TakenOver life hs server (behind past events)
   on_aside life hs server past events s f = record {
     played = f.played;
     over = f.over;
     found = λ fit. found_less (May server.shared.games stamp (behind past events)) (May server.shared.games stamp past) before f.played.life (aside_less server past events s) (f.found fit);
   }
 
-  at_past : (life : Life) (hs : List Heard) (server : Server G F) (past past' : List Event) → past' ≡ past → TakenOver life hs server past → TakenOver life hs server past'
+  pub at_past : (life : Life) (hs : List Heard) (server : Server G F) (past past' : List Event) → past' ≡ past → TakenOver life hs server past → TakenOver life hs server past'
   at_past life hs server past past' same f = record { played = f.played; over = f.over; found = λ fit. subst (λ (l : List Event). FindsItsOwn (May server.shared.games stamp l) before f.played.life) (sym same) (f.found fit) }
 
-  nothing : (life : Life) (server : Server G F) (past : List Event) → IsAt (game_at server stamp) life → FoundAt server life past → TakenOver life [] server past
+  pub nothing : (life : Life) (server : Server G F) (past : List Event) → IsAt (game_at server stamp) life → FoundAt server life past → TakenOver life [] server past
   unfolding PlaysAll
   nothing life server past isat found = record { played = record { each = []; life = life; plays = refl; at = isat }; over = tt; found = found }
 
-  on_heard : (life : Life) (hs gs : List Heard) (mid new : Server G F) (past past' : List Event) (f : TakenOver life hs mid past) → TakenOver f.played.life gs new past' → TakenOver life (hs ++ gs) new past'
+  pub on_heard : (life : Life) (hs gs : List Heard) (mid new : Server G F) (past past' : List Event) (f : TakenOver life hs mid past) → TakenOver f.played.life gs new past' → TakenOver life (hs ++ gs) new past'
   on_heard life hs gs mid new past past' f q =
       let p = f.played in
       let r = q.played in
@@ -340,7 +340,7 @@ module _ {T P F K S L G : Type 0} (o : Outside T P F K S L) (facts : GamesFacts 
         let fits = goes_fit facts IsFit May order stamp (common old) old.shared.games new.shared.games h.datagram (was_open old (heard_in h.datagram)) h.events d.fate d.goes in
         from_acts n a.over (λ fit. found_less (May new.shared.games stamp (behind past h.events)) (May old.shared.games stamp past) before (life_through life n.acts) less (a.found (fits fit)))
 
-    one_taken : TakenOver life (h ∷ []) new (behind past h.events)
+    pub one_taken : TakenOver life (h ∷ []) new (behind past h.events)
     one_taken = by_for (played_one o facts old new h d life stamp isat) (is_for stamp h) refl
 
   came_taken : (old new : Server G F) (h : Heard) (d : HearsDatagram o facts old new h.datagram h.reply h.events) → IsHere old → (life : Life) → IsAt (game_at old stamp) life → (past : List Event) → IsDurableAfter kept_at stamp past (heard_events h) → FoundAt old life past → TakenOver life (h ∷ []) new (behind past (heard_events h))
@@ -348,7 +348,7 @@ module _ {T P F K S L G : Type 0} (o : Outside T P F K S L) (facts : GamesFacts 
       let came = Came h.from h.datagram in
       one_taken old new h d here life isat (came ∷ past) durable.1 (λ fit. found_less (May old.shared.games stamp (came ∷ past)) (May old.shared.games stamp past) before life (aside_less old past (came ∷ []) (λ at. aside_one at stamp past came tt)) (found fit))
 
-  all_taken : (old new : Server G F) (life : Life) (hs : List Heard) (past : List Event) → HearsAll o facts old hs new → IsHere old → IsAt (game_at old stamp) life → IsDurableAfter kept_at stamp past (flat_map heard_events hs) → FoundAt old life past → TakenOver life hs new (behind past (flat_map heard_events hs))
+  pub all_taken : (old new : Server G F) (life : Life) (hs : List Heard) (past : List Event) → HearsAll o facts old hs new → IsHere old → IsAt (game_at old stamp) life → IsDurableAfter kept_at stamp past (flat_map heard_events hs) → FoundAt old life past → TakenOver life hs new (behind past (flat_map heard_events hs))
   unfolding HearsAll
   all_taken old new life [] past p here isat durable found = nothing life new past (subst (λ (s : Server G F). IsAt (game_at s stamp) life) (sym p) isat) (subst (λ (s : Server G F). FoundAt s life past) (sym p) found)
   all_taken old new life (h ∷ hs) past p here isat durable found =
@@ -361,9 +361,9 @@ module _ {T P F K S L G : Type 0} (o : Outside T P F K S L) (facts : GamesFacts 
 
   -- ---- a turn
 
-  record DeedTaken (old : Server G F) (life : Life) (deed : Deed) (new : Server G F) (past : List Event) : Type 0 where
-    here : IsHere new
-    game : TakenOver life (heard_by deed) new past
+  pub record DeedTaken (old : Server G F) (life : Life) (deed : Deed) (new : Server G F) (past : List Event) : Type 0 where
+    pub here : IsHere new
+    pub game : TakenOver life (heard_by deed) new past
 
   on_commit : (mid new : Server G F) (life : Life) (r : Round) (past : List Event) (is : Rattle.game_folder.specs.Holdings.CommitsGames facts mid.shared.games new.shared.games r.committed r.commits) → game_at new stamp ≡ game_at mid stamp → TakenOver life r.heard mid past → TakenOver life r.heard new (behind past r.commits)
   on_commit mid new life r past is same f = record {
@@ -393,14 +393,14 @@ module _ {T P F K S L G : Type 0} (o : Outside T P F K S L) (facts : GamesFacts 
         game = at_past life r.heard new (behind c sends) (behind past (round_events to r)) joined at_sent;
       }
 
-  deed_taken : (to : List Recipient) (old new : Server G F) (life : Life) (deed : Deed) (past : List Event) → IsDeed o facts old deed new → IsHere old → IsAt (game_at old stamp) life → IsDurableAfter kept_at stamp past (deed_events to deed) → FoundAt old life past → DeedTaken old life deed new (behind past (deed_events to deed))
+  pub deed_taken : (to : List Recipient) (old new : Server G F) (life : Life) (deed : Deed) (past : List Event) → IsDeed o facts old deed new → IsHere old → IsAt (game_at old stamp) life → IsDurableAfter kept_at stamp past (deed_events to deed) → FoundAt old life past → DeedTaken old life deed new (behind past (deed_events to deed))
   deed_taken to old new life (AnswersRound r) past is here isat durable found = round_taken to old new life r past is here isat durable found
   deed_taken to old new life HearsNone past is here isat durable found = record {
     here = subst IsHere (sym is) here;
     game = on_aside life [] new past (Missed ∷ []) (λ at. aside_one at stamp past Missed tt) (nothing life new past (subst (λ (s : Server G F). IsAt (game_at s stamp) life) (sym is) isat) (subst (λ (s : Server G F). FoundAt s life past) (sym is) found));
   }
 
-  turns_taken : (form : LineForm) (texts : List (List ℕ)) (to : List Recipient) (old new : Server G F) (turns : List Turn) (life : Life) (past : List Event) → InTurns o facts form texts old turns new → IsHere old → IsAt (game_at old stamp) life → IsDurableAfter kept_at stamp past (run_events to turns) → FoundAt old life past → TakenOver life (heard_in_turns turns) new (behind past (run_events to turns))
+  pub turns_taken : (form : LineForm) (texts : List (List ℕ)) (to : List Recipient) (old new : Server G F) (turns : List Turn) (life : Life) (past : List Event) → InTurns o facts form texts old turns new → IsHere old → IsAt (game_at old stamp) life → IsDurableAfter kept_at stamp past (run_events to turns) → FoundAt old life past → TakenOver life (heard_in_turns turns) new (behind past (run_events to turns))
   unfolding InTurns
   turns_taken form texts to old new [] life past p here isat durable found = nothing life new past (subst (λ (s : Server G F). IsAt (game_at s stamp) life) (sym p) isat) (subst (λ (s : Server G F). FoundAt s life past) (sym p) found)
   turns_taken form texts to old new (turn ∷ turns) life past p here isat durable found =
@@ -420,7 +420,7 @@ module _ {T P F K S L G : Type 0} (o : Outside T P F K S L) (facts : GamesFacts 
 
   -- ---- behind a commit that succeeded
 
-  round_heard : (old mid : Server G F) (life : Life) (r : Round) (past : List Event) → HearsAll o facts old r.heard mid → IsHere old → IsAt (game_at old stamp) life → IsDurableAfter kept_at stamp past (flat_map heard_events r.heard ++ end_events r.end) → FoundAt old life past → TakenOver life r.heard mid (behind past (flat_map heard_events r.heard ++ end_events r.end))
+  pub round_heard : (old mid : Server G F) (life : Life) (r : Round) (past : List Event) → HearsAll o facts old r.heard mid → IsHere old → IsAt (game_at old stamp) life → IsDurableAfter kept_at stamp past (flat_map heard_events r.heard ++ end_events r.end) → FoundAt old life past → TakenOver life r.heard mid (behind past (flat_map heard_events r.heard ++ end_events r.end))
   round_heard old mid life r past hears here isat durable found =
       let heard = flat_map heard_events r.heard in
       let ends = end_events r.end in

@@ -56,12 +56,13 @@ pub record KeepsInOrder {G : Type 0} (facts : GamesFacts G) (IsFit : G → Type 
   pub commits : (g now : G) → facts.place now ≡ facts.place g → (stamp : List ℕ) (told : Result (Unit {0}) Uncommitted) (events past : List Event)
       → facts.commits g told events now → IsFit now
       → FindsNoMore (MayTake now stamp (behind past events)) (MayTake g stamp past)
-  -- behind one that succeeded a start finds what a taking did; behind one that failed, that or what a start found before
+  -- behind one that succeeded a start finds what a taking did; behind one that failed, that, where more could be committed, or what a start found
+  -- before
   pub lasts : (g now : G) (stamp : List ℕ) (events past : List Event) → facts.commits g (Ok tt) events now
       → FindsNoMore (MayFind (facts.places (facts.place g) stamp) stamp (behind past events)) (MayTake g stamp past)
   pub breaks_off : (g now : G) (stamp : List ℕ) (why : Uncommitted) (events past : List Event) → facts.commits g (Err why) events now
       → (found : Option (List ℕ)) → MayFind (facts.places (facts.place g) stamp) stamp (behind past events) found
-      → MayTake g stamp past found ⊎ MayFind (facts.places (facts.place g) stamp) stamp past found
+      → (IsFit g × MayTake g stamp past found) ⊎ MayFind (facts.places (facts.place g) stamp) stamp past found
   -- what changes nothing of what a start finds changes nothing of what a taking does; and no call changes where games are
   pub stays : (g : G) (stamp : List ℕ) (events past : List Event) → StaysFound (facts.places (facts.place g) stamp) stamp past events
       → FindsNoMore (MayTake g stamp (behind past events)) (MayTake g stamp past)

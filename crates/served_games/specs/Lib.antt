@@ -7,3 +7,6 @@ pub mod OneGames
 pub mod FolderRuns
 pub mod FileHistories
 pub mod InOrder
+pub mod StoreRuns
+pub mod FolderStores
+pub mod StoreHistories

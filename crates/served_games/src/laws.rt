@@ -6,11 +6,14 @@ ghost use Rattle.game_folder.specs.OneGame.{one_game_facts};
 ghost use Rattle.served_games.specs.Durable.{GamesAreFound, KeepsAtOnce, RunsLast};
 ghost use Rattle.served_games.specs.FileHistories.{FilesAreDurable};
 ghost use Rattle.served_games.specs.FolderRuns.{FolderGamesKeepWhatTheyTold};
+ghost use Rattle.served_games.specs.FolderStores.{StoreGamesAreLed, StoreGamesKeepWhatTheyTold};
 ghost use Rattle.served_games.specs.InOrder.{StoreCommitsAreFound, StoreGamesAreTaken, StoreKeepsInOrder};
 ghost use Rattle.served_games.specs.Lasting.{EachLasts};
 ghost use Rattle.served_games.specs.OneGames.{OneGameKeepsWhatItTold};
 ghost use Rattle.served_games.specs.PlaceKeepers.{place_keepers};
 ghost use Rattle.served_games.specs.ServedGames.{GamesArePlayed, PlayedAreHosted};
+ghost use Rattle.served_games.specs.StoreHistories.{StoresAreDurable};
+ghost use Rattle.served_games.specs.StoreRuns.{StoreRunsAreLed, StoreRunsAreTold};
 
 use game_folder::Games;
 use timeline::System;
@@ -90,6 +93,12 @@ pub fn files_are_durable<S: System>(_system: &S)
     ensures { FilesAreDurable (S.outside _system.now) }
 {}
 
+/// A store is durable, where each call at it does what `System` promises (`stores::open`, `stores::find`, `stores::commit`), its disk returned what was
+/// written, a commit in which the process stops leaves what was there or the whole batch, and nobody else writes it.
+pub fn stores_are_durable<S: System>(_system: &S)
+    ensures { StoresAreDurable (S.outside _system.now) }
+{}
+
 /// What is noted of games, and committed to a store, is kept in order, call by call: a taking finds what was put last, whether or not that is
 /// committed; behind a commit a start finds that too, and behind one that failed that or what it found before.
 pub fn store_games_keep_in_order<S: System>(_system: &S)
@@ -105,4 +114,19 @@ pub fn store_games_are_taken<S: System>(_system: &S)
 /// Behind a round whose commit to a store succeeded, whatever a start may find of a game there is what the game keeps or left.
 pub fn store_commits_are_found<S: System>(_system: &S)
     ensures { StoreCommitsAreFound (S.outside _system.now) }
+{}
+
+/// Behind any runs over a store, wherever each of them stopped, whatever a start may find of a game is a record in which all is that each answer
+/// told that went out: as many moves as were acknowledged, the same ones, and the verdict at its ply. It is what the acts of whole turns lead to,
+/// of each run those of its first ones, among them each turn whose answers went out. The premises are in the statement (`specs/StoreRuns.antt`).
+pub fn store_runs_last<S: System>(_system: &S)
+    ensures told { StoreRunsAreTold (S.outside _system.now) }
+    ensures led { StoreRunsAreLed (S.outside _system.now) }
+{}
+
+/// What a game of a folder told over a store stays, over all runs of new servers of the folder, wherever each of them stopped. The premises are in
+/// the statement (`specs/FolderStores.antt`): the game's own file has its text whenever it is read; and the store is durable.
+pub fn store_games_keep_what_they_told<S: System>(_system: &S)
+    ensures told { StoreGamesKeepWhatTheyTold (S.outside _system.now) }
+    ensures led { StoreGamesAreLed (S.outside _system.now) }
 {}

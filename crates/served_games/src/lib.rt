@@ -6,17 +6,21 @@
 //!
 //! A start finds what was put, committed or found last; behind a put or a commit that failed, that or what was there before (`MayFind`). That
 //! each start of the past found such is the one premise on files and stores (`IsDurable`). Of a file it follows from what `System` promises of
-//! a start and a put, where nobody else writes the file and the disk keeps what it took (`FilesAreDurable`).
+//! a start and a put, where nobody else writes the file and the disk keeps what it took (`FilesAreDurable`); so it does of a store
+//! (`StoresAreDurable`).
 //!
-//! Inside: `laws`; `files`, what `System` promises of a call at a file, as a step of the file's history. In `proofs/`: `Carrying` (an answer over a
-//! draft as one over what is kept), `Opening`, `Going` (acts behind others), `Playing` (one datagram), `Running` (a run), `Telling` and `Lasting`
-//! (what was told, over acts and runs), `Finding` (what may be found behind acts), `Asides` (events that change nothing of it), `Following` (a
-//! run), `Enduring` (all runs); `Stamping` (stamps are bytes, and paths of two differ), `AtOnce` (files), `OneGames`, `FolderRuns`,
-//! `FileHistories`; `Reaching` and `InTurn` (what a datagram makes of the games), `InOrder` (a store), `Taking` (a run over it).
+//! Inside: `laws`; `files` and `stores`, what `System` promises of a call at a file or a store, as a step of its history. In `proofs/`: `Carrying`
+//! (an answer over a draft as one over what is kept), `Opening`, `Going` (acts behind others), `Playing` (one datagram), `Running` (a run),
+//! `Telling` and `Lasting` (what was told, over acts and runs), `Finding` (what may be found behind acts), `Asides` (events that change nothing
+//! of it), `Following` (a run), `Enduring` (all runs); `Stamping` (stamps are bytes, and paths of two differ), `AtOnce` (files), `OneGames`,
+//! `FolderRuns`, `FileHistories`; `Reaching` and `InTurn` (what a datagram makes of the games), `InOrder` (a store), `Taking` (a run over it);
+//! `Choosing` (what was found before, by what is found later), `Noting` (what commits nothing), `Fronts` (which turns of a run count), `StoreRuns`
+//! and `FolderStores` (all runs over a store), `StoreHistories`.
 //!
 //! Definitions, in reading order: `PlaceKeepers`, `ServedGames` (`GoesOn`, `PlaysAll`, `OpenedGame`), `Lasting` (`WhatWasToldLasts`), `Durable`
 //! (`MayFind`, `IsDurable`, `KeepsAtOnce`, `RunsLast`), `Unasked` (`Begins`), `OneGames` (`OneGameKeepsWhatItTold`), `FolderRuns`
-//! (`FolderGamesKeepWhatTheyTold`), `FileHistories` (`FilesAreDurable`), `InOrder` (`KeepsInOrder`, `GamesAreTaken`, `CommitsAreFound`).
+//! (`FolderGamesKeepWhatTheyTold`), `FileHistories` (`FilesAreDurable`), `InOrder` (`KeepsInOrder`, `GamesAreTaken`, `CommitsAreFound`), `StoreRuns`
+//! (`Front`, `StoreRunsAreTold`, `StoreRunsAreLed`), `FolderStores` (`StoreGamesKeepWhatTheyTold`), `StoreHistories` (`StoresAreDurable`).
 //!
 //! - CLAIM: `laws::games_are_played`; `laws::played_are_hosted`: in a run each game has its own acts, from where it was to where it is; for each
 //!   datagram of the game they have its reply, and the events that were made for it. They go on from one another as those of a host, where each
@@ -35,15 +39,19 @@
 //! - CLAIM: `laws::folder_games_keep_what_they_told`: so does what a game of a folder told, over all runs of new servers of the folder, where its
 //!   own file has the game's text whenever it is read, and the file of its record is durable.
 //! - CLAIM: `laws::files_are_durable`; `files::start`, `files::put`: a file is durable, where each call at it does what `System` promises.
+//! - CLAIM: `laws::stores_are_durable`; `stores::open`, `stores::find`, `stores::commit`: so is a store.
 //! - CLAIM: `laws::store_games_keep_in_order`; `laws::store_games_are_taken`: records that are noted, and committed to a store, are kept in order,
 //!   call by call; so in a run, where the store is durable, each opening is over what was left, and while more can be committed, what a taking
 //!   may find is what the game keeps or left, whether or not that is committed.
 //! - CLAIM: `laws::store_commits_are_found`: behind a round whose commit to a store succeeded, whatever a start may find of a game is what it keeps
 //!   or left.
-//!
-//! Not said: over all runs of a store, that what was told lasts. Behind a commit that was broken off a start finds the whole batch or what was
-//! there before, so which of a run's acts count is known only by what is found later.
+//! - CLAIM: `laws::store_runs_last`; `laws::store_games_keep_what_they_told`, clauses `told` and `led`: after any runs over a store, wherever each of
+//!   them stopped, whatever a start may find of a game is a record in which all is that each answer told that went out. Behind a commit that
+//!   was broken off a start finds the whole batch or what was there before, and only what is found later tells which: so it is what the acts
+//!   of some first turns of each run lead to, among them each turn whose answers went out. The second says so of new servers of a folder,
+//!   where the game's own file has its text whenever it is read, and the store is durable.
 #![tactic(auto)]
 
 pub mod files;
 pub mod laws;
+pub mod stores;

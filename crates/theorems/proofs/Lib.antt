@@ -6,3 +6,4 @@ pub mod Joining
 pub mod Acking
 pub mod Serving
 pub mod ServedWeaving
+pub mod ServedStoring

@@ -152,7 +152,7 @@ module _ {G : Type 0} (facts : GamesFacts G) (place : facts.Place) (game : Judge
   closed_life (Shut before) new left h = absurd h
   closed_life (Open at) new left h = h.1
 
-  act_life : (t : CommonView) (old new : Life) (a : Action PlaceKeeper) → GoesByAct Ks t game.stamp old a new → new ≡ life_by old a
+  pub act_life : (t : CommonView) (old new : Life) (a : Action PlaceKeeper) → GoesByAct Ks t game.stamp old a new → new ≡ life_by old a
   act_life t old new (act.Unread datagram fault) h = absurd h
   act_life t old new (act.Strange stamp datagram tried why) h = h.2
   act_life t old new (act.Refuses stamp datagram o fault) h = h.new_is

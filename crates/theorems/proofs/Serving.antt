@@ -37,11 +37,12 @@ use Rattle.game_server.specs.Sending.{request}
 use Rattle.game_server.specs.Starting.{opener, request_of}
 use Rattle.game_server.specs.declared.seat.Seat.{Seat}
 use Rattle.game_server.specs.declared.server.Server.{Server}
-use Rattle.served_games.specs.Durable.{KeepsAtOnce, LastsBehind, ServedRun, behind, events_of_all, heard_in_run}
+use Rattle.served_games.specs.Durable.{KeepsAtOnce, LastsBehind, ServedRun, behind, events_of_all, heard_in_run, left_before}
 use Rattle.served_games.specs.PlaceKeepers.{PlaceKeeper, place_facts, place_keepers}
 use Rattle.served_games.specs.ServedGames.{AreOverLeft, IsAt, OpenedGame, acts_in, all_acts, game_at, heard_in_turns, is_for, reply_for, reply_to}
 use Rattle.served_games.specs.Unasked.{Begins, WithNone, WithOne}
 use Rattle.served_games.proofs.Enduring.{closed_at, runs_last}
+use Rattle.served_games.proofs.Finding.{left_act}
 use Rattle.served_games.proofs.Going.{Acts, Life, alone, goes_join, opening_on, over_first, over_rest, own_join, playing_on, plays_join}
 use Rattle.served_games.proofs.OneGames.{begun_hears}
 use Rattle.served_games.proofs.Running.{all_played, before, games_are_played, stays_all, stays_on, turns_stay}
@@ -126,7 +127,7 @@ replies_so stamp (x ∷ xs) h = replies_join (reply_for stamp x) (flat_map (repl
     one true = (h.0, tt)
     one false = tt
 
-own_rest : (stamp : List ℕ) (acts : Acts) → AllByRecursion (λ act. game_of act ≡ Some stamp) acts → AllByRecursion (λ act. game_of act ≡ Some stamp) (unanswered acts)
+pub own_rest : (stamp : List ℕ) (acts : Acts) → AllByRecursion (λ act. game_of act ≡ Some stamp) acts → AllByRecursion (λ act. game_of act ≡ Some stamp) (unanswered acts)
 own_rest stamp [] h = tt
 own_rest stamp (Unread datagram fault ∷ acts) h = (h.0, own_rest stamp acts h.1)
 own_rest stamp (Strange of datagram tried why ∷ acts) h = (h.0, own_rest stamp acts h.1)
@@ -179,6 +180,34 @@ module _ {G : Type 0} (facts : GamesFacts G) (place : facts.Place) (t : CommonVi
       subst (λ (l : Life). Goes Ks t game.stamp l (unanswered acts) new) same (goes_rest h.0 new acts (subst IsUp (sym same) up) h.2 r.1)
   goes_rest old new (Closes stamp left ∷ acts) up h r = (h.0, h.1, goes_rest h.0 new acts (closes_up old h.0 left h.1) h.2 r.1)
 
+  closes_shut : (old new : Life) (left : PlaceKeeper) → ClosesTo old left new → new ≡ Shut left
+  closes_shut Fresh new left h = absurd h
+  closes_shut (Shut before) new left h = absurd h
+  closes_shut (Open at) new left h = h.1
+
+  answers_over : (before : PlaceKeeper) (old new : Life) (e : Exchange PlaceKeeper) (acts : Acts) → AnswersTo Ks old e new → AreOverLeft (life_at e.after) acts → AreOverLeft (left_before before new) acts
+  answers_over before Fresh new e acts h over = absurd h
+  answers_over before (Shut left) new e acts h over = absurd h
+  answers_over before (Open at) new e acts h over = subst (λ (l : Life). AreOverLeft (left_before before l) acts) (sym h.1) (subst (λ (l : Life). AreOverLeft l acts) (left_act before (Open at) (Answers game.stamp e)) over)
+
+  -- the openings among acts are over what was left, without the answers too
+  over_unanswered : (before : PlaceKeeper) (old new : Life) (acts : Acts) → IsUp old → Goes Ks t game.stamp old acts new → AllByRecursion OnRequest acts → AreOverLeft (left_before before old) acts → AreOverLeft (left_before before old) (unanswered acts)
+  unfolding OnRequest
+  over_unanswered before old new [] up h r over = over
+  over_unanswered before old new (Unread datagram fault ∷ acts) up h r over = absurd h.1
+  over_unanswered before old new (Strange stamp datagram tried why ∷ acts) up h r over =
+      (tt, subst (λ (l : Life). AreOverLeft (left_before before l) (unanswered acts)) h.1.2 (over_unanswered before h.0 new acts (subst IsUp (sym h.1.2) up) h.2 r.1 (subst (λ (l : Life). AreOverLeft (left_before before l) acts) (sym h.1.2) over.1)))
+  over_unanswered before old new (Refuses stamp datagram o fault ∷ acts) up h r over =
+      (over.0, subst (λ (l : Life). AreOverLeft (left_before before l) (unanswered acts)) h.1.new_is (over_unanswered before h.0 new acts (subst IsUp (sym h.1.new_is) tt) h.2 r.1 (subst (λ (l : Life). AreOverLeft (left_before before l) acts) (sym h.1.new_is) over.1)))
+  over_unanswered before old new (Opens stamp o v ∷ acts) up h r over =
+      (over.0, subst (λ (l : Life). AreOverLeft (left_before before l) (unanswered acts)) h.1.new_is (over_unanswered before h.0 new acts (subst IsUp (sym h.1.new_is) (opens_up old h.0 o v h.1)) h.2 r.1 (subst (λ (l : Life). AreOverLeft (left_before before l) acts) (sym h.1.new_is) over.1)))
+  over_unanswered before old new (Answers stamp e ∷ acts) up h r over =
+      let same = answers_stay old h.0 e up h.1 r.0 in
+      subst (λ (l : Life). AreOverLeft (left_before before l) (unanswered acts)) same (over_unanswered before h.0 new acts (subst IsUp (sym same) up) h.2 r.1 (answers_over before old h.0 e acts h.1 over.1))
+  over_unanswered before old new (Closes stamp left ∷ acts) up h r over =
+      let shut = closes_shut old h.0 left h.1 in
+      (tt, subst (λ (l : Life). AreOverLeft (left_before before l) (unanswered acts)) shut (over_unanswered before h.0 new acts (closes_up old h.0 left h.1) h.2 r.1 (subst (λ (l : Life). AreOverLeft (left_before before l) acts) (sym shut) over.1)))
+
   -- ---- a game in a run
 
   module _ (unasked : List Heard) (requests : AreRequests unasked) (begun : Option (Moment DraftView)) (heard : List Heard) (p : OpenedGame facts place t game.stamp unasked begun heard) where
@@ -188,12 +217,24 @@ module _ {G : Type 0} (facts : GamesFacts G) (place : facts.Place) (t : CommonVi
     abbrev played : Acts
     played = all_acts p.each
 
-    is_run : AreOverLeft Fresh (acts_in p) → IsRunOfHost Ks game who (unanswered opened ++ played)
+    -- those by which it was opened, without their answers
+    asked_so : AllByRecursion OnRequest opened
+    asked_so = on_requests opened (subst (AllByRecursion IsReplyTo) (sym (opening_on facts place t game.stamp unasked begun heard p).on.replies_are) (replies_so game.stamp unasked requests))
+
+    opened_so : AreOverLeft Fresh (acts_in p) → Goes Ks t game.stamp Fresh opened p.mid
+    opened_so over = (opening_on facts place t game.stamp unasked begun heard p).on.goes (over_first facts place t game.stamp unasked begun heard p over)
+
+    pub early_goes : AreOverLeft Fresh (acts_in p) → Goes (place_keepers facts place) t game.stamp Fresh (unanswered (all_acts p.first)) p.mid
+    early_goes over = goes_rest Fresh p.mid opened tt (opened_so over) asked_so
+
+    pub early_over : (before : PlaceKeeper) → AreOverLeft Fresh (acts_in p) → AreOverLeft (Shut before) (all_acts p.first) → AreOverLeft (Shut before) (unanswered (all_acts p.first))
+    early_over before over first = over_unanswered before Fresh p.mid opened tt (opened_so over) asked_so first
+
+    pub is_run : AreOverLeft Fresh (acts_in p) → IsRunOfHost Ks game who (unanswered opened ++ played)
     is_run over =
         let opens = opening_on facts place t game.stamp unasked begun heard p in
         let plays = playing_on facts place t game.stamp unasked begun heard p in
-        let asked = subst (AllByRecursion IsReplyTo) (sym opens.on.replies_are) (replies_so game.stamp unasked requests) in
-        let early = goes_rest Fresh p.mid opened tt (opens.on.goes (over_first facts place t game.stamp unasked begun heard p over)) (on_requests opened asked) in
+        let early = early_goes over in
         let late = plays.on.goes (over_rest facts place t game.stamp unasked begun heard p over) in
         let own = own_join game.stamp (unanswered opened) played (own_rest game.stamp opened opens.on.own) plays.on.own in
         record {

@@ -4,3 +4,4 @@ pub mod Sources
 pub mod Seals
 pub mod Served
 pub mod ServedWeaves
+pub mod ServedStores

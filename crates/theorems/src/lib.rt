@@ -12,11 +12,11 @@
 //! of another game and a datagram without a keeper leave what is found (`GivesOwn`, `GivesIf`). That the acts of a run go on from one another
 //! (`goes` of `IsRunOfHost`) is proved of each run of a server, wherever it stopped (`served_are_hosted`).
 //!
-//! Inside: `arbiters`, `hosts`, `served`, `sources`, `seals`. In `proofs/`: `Netting` (arbiters), `Seeing` (keepers of any type,
+//! Inside: `arbiters`, `hosts`, `served`, `served_stores`, `sources`, `seals`. In `proofs/`: `Netting` (arbiters), `Seeing` (keepers of any type,
 //! seen as what they keep), `Weaving` (an act of a host as steps of an arbiter), `Stopping`, `Joining`, `Acking`, `Serving` and
-//! `ServedWeaving` (servers of games over one timeline).
+//! `ServedWeaving` (servers of games over one timeline), `ServedStoring` (those over stores).
 //!
-//! Definitions, in reading order: `Nets`, `Interleavings`, `Served`, `ServedWeaves`, `Sources`, `Seals`. A law has no
+//! Definitions, in reading order: `Nets`, `Interleavings`, `Served`, `ServedWeaves`, `ServedStores`, `Sources`, `Seals`. A law has no
 //! case of its own; `tools/host_games` and `tools/weather` play games between two hosts.
 //!
 //! - CLAIM: `arbiters_are_worlds`: two arbiters of one game over keepers of any one type, by steps as the contracts of `open` and
@@ -33,6 +33,10 @@
 //!   they are durable, each opening is so, wherever the run stopped. So the laws of two hosts are laws of two servers.
 //! - CLAIM: `served_are_woven`: two servers, each over files, come to a net as `hosts_are_worlds` asks, by where each opening begins: that
 //!   keepers keep, and what a closing leaves, are no premises.
+//! - CLAIM: `served_stores_are_woven`: two servers, each over a store, or one over a store and one over files, come to a net as `hosts_are_worlds`
+//!   asks, by the acts that happened of their runs, wherever each run stopped: of each run over a store those of its first turns, among them
+//!   each turn whose answers went out. What a start finds in each store, or file, is kept there; that keepers keep, and what a closing
+//!   leaves, are no premises.
 //! - CLAIM: `sends_the_log`: each datagram that a run of `send` passes on is a message of the log with which the worlds of its
 //!   moves begin.
 //! - CLAIM: `sources_tell_the_truth`: what a source goes by is true, where all that came of the game was sent in a world of it: a
@@ -45,6 +49,7 @@ mod arbiters;
 mod hosts;
 mod seals;
 mod served;
+mod served_stores;
 mod sources;
 
 pub use arbiters::{arbiters_are_worlds, arbiters_tell_the_truth};
@@ -53,4 +58,5 @@ pub use seals::no_tag_no_forgery;
 pub use served::{
     served_are_hosted, served_are_woven, served_folder_is_hosted, served_game_is_hosted,
 };
+pub use served_stores::served_stores_are_woven;
 pub use sources::{sends_the_log, sources_tell_the_truth};
