@@ -2,7 +2,7 @@
 
 ghost use Rattle.std.specs.Prelude.{◌≡◌, IfErr, IfOk, OnOk, codes};
 ghost use Rattle.clap.specs.Words.{first_value, found_of};
-ghost use Rattle.command_line.specs.Commands.Status.{HasValues, faults, report_told};
+ghost use Rattle.command_line.specs.Commands.Status.{HasValues, faults, report_by, report_told};
 ghost use Rattle.command_line.specs.declared.words.usage.Instead.TheVariants.{Prometheus};
 ghost use Rattle.command_line.specs.Misuses.{IsFirstMisuse, IsToldMisuse, Holds, FlagNotWith, fault_words};
 ghost use Rattle.command_line.specs.Numbers.{is_set};
