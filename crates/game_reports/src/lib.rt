@@ -28,6 +28,7 @@
 //!   lines before, and nothing more; a folder that isn't opened is refused alone. An error comes only where a write might be refused.
 #![tactic(auto)]
 
+mod asked;
 mod audit;
 mod folders;
 mod game_record;
@@ -38,6 +39,7 @@ mod status;
 mod store_reading;
 mod telling;
 
+pub use asked::{GameFound, read_game, read_report};
 pub use audit::print_audit;
 pub use game_record::print_game_record;
 pub use status::report_status;
