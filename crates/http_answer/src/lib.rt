@@ -43,7 +43,7 @@ mod times;
 mod watch;
 
 pub use answerer::Answerer;
-pub use games::{GameFolders, Games};
+pub use games::{GameFolders, Games, LackedFolder};
 pub use page::PAGE;
 pub use query::asked_text;
 pub use router::Router;

@@ -7,7 +7,7 @@ pub returns-in-Ok-Some-clause-game : goal.returns-in-Ok-Some-clause-game
 returns-in-Ok-Some-clause-game g c =
     let found = rw (c.in-Ok-Some.is, c.in-Ok-Some.field-0-is) at c.in_ok-found.ensures.game in
     let filled = rw c.compares.ensures at c.fill_game.ensures.game in
-    on_ok_weaker c.fill_game.result (λ (text, game, has). game_found _ _ g.D.Disk.facts g.H.Host.stores _ _ c.in-Ok-Some.found text _ found game has) filled
+    on_ok_weaker c.fill_game.result (λ (text, game, has). game_found _ _ g.S.System.outside _ _ c.in-Ok-Some.found text _ found game has) filled
 
 pub returns-in-Ok-None-clause-game : goal.returns-in-Ok-None-clause-game
 returns-in-Ok-None-clause-game g c =
