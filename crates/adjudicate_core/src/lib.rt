@@ -21,10 +21,8 @@
 //!   answer says, is not said.
 #![tactic(auto)]
 
-mod beside;
 mod misusing;
-mod noting;
 mod program;
+mod serving;
 
-pub use beside::Beside;
 pub use program::{refuse_memory, run_program};

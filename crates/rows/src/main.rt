@@ -18,7 +18,6 @@
 mod case;
 mod closed;
 mod counting;
-mod memory_host;
 mod pieces;
 mod report;
 mod running;

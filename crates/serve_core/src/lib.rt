@@ -28,9 +28,9 @@ mod refusals;
 mod serving;
 mod task;
 
-pub use answering::answer_requests;
-pub use logging::{HostLog, Log, Logged, MemoryLog, request_line};
+pub use answering::{Answering, Asked, answer_requests};
+pub use logging::request_line;
 pub use pages::{Bound, Pages};
-pub use refusals::{Refusal, Unbound};
+pub use refusals::Unbound;
 pub use serving::{SystemPages, serve};
-pub use task::{Outside, serve_task};
+pub use task::{Serving, serve_task};
