@@ -1,6 +1,7 @@
 -- What `serve` does, one thing after another.
 use Rattle.std.proofs.Common.{◌≡◌, ◌∙◌, ◌++◌, ◌∷◌, [], ℕ, zero, suc, List, Option, Some, None, ap, inl, inr, refl, subst, sym, take}
-use Rattle.std.specs.Prelude.{◌≢◌, Result, Ok, Err}
+use Rattle.std.specs.Borrow.{Bor}
+use Rattle.std.specs.Prelude.{◌≢◌, Result, Ok, Err, option_map}
 use Rattle.answer_parts.proofs.PrintLaws.{then_does, then_prints}
 use Rattle.answer_parts.specs.Lines.{refusal_words}
 use Rattle.answer_parts.specs.Printing.{AtFlush, AtWrite, Performs, Prints, printed}
@@ -8,6 +9,7 @@ use Rattle.answer_parts.specs.Refusals.{unread_refusal}
 use Rattle.answer_parts.specs.declared.answers.refusals.Refusal.{Refusal}
 use Rattle.answer_parts.specs.declared.answers.refusals.Refusal.TheVariants as refusal
 use Rattle.command_line.specs.declared.commands.serve.Serve.{Serve}
+use Rattle.http_answer.specs.Games.{AreOfOne, GamesByClock, unread_games}
 use Rattle.line_teller.specs.ToldLines.{refused_memory}
 use Rattle.move_msg.specs.ToldBy.{told_by}
 use Rattle.move_msg.specs.ToldManifests.{TellsManifest, ToldManifest}
@@ -17,7 +19,8 @@ use Rattle.system_io.specs.Disks.{DiskFacts}
 use Rattle.system_io.specs.declared.output.WriteFault.{WriteFault}
 use Rattle.system_io.specs.declared.reading.ReadFault.{ReadFault}
 use Rattle.table_commands.specs.FolderAnswers.{IsSound}
-use Rattle.table_folder.specs.Folders.{Folder}
+use Rattle.table_folder.specs.Folders.{Folder, FolderOn}
+use Rattle.table_folder.specs.declared.files.SystemFiles.{SystemFiles}
 use Rattle.table_folder.specs.Reads.{OpensFolder}
 use Rattle.task_files.specs.InputReads.{Both, FileIs, FileIsNot, FirstAlone, LinesAre, NoRoomForLines, ReadsFile, ReadsLines, ReadsManifest}
 use Rattle.task_files.specs.Outside.{IsToldAt}
@@ -25,10 +28,12 @@ use Rattle.timeline.proofs.EventLaws.{adds_more, adds_none}
 use Rattle.timeline.specs.Events.{Event, Flushed, Noted, Refused, Wrote}
 use Rattle.timeline.specs.Outsides.{Adds, AddsSome, Outside}
 use Rattle.timeline.specs.declared.stream.Stream.TheVariants.{Output}
+use Rattle.serve_core.specs.GamesNamed.{games_for}
 use Rattle.serve_core.specs.Inside.{GoesOut, ReadsSound}
 use Rattle.serve_core.specs.Refusals.{refusal_for}
 use Rattle.serve_core.specs.Serve.{AllAnswered, AreOpen, BadManifest, Begins, IsLost, IsNoted, IsReady, IsRefused, MayNote, NoFolder, NoManifest, NoRoom, NoTables, NotAwaited, NotBound, NotNoted, OfFolder, OnlyReadsSince, OpensTables, RefusesTables, ServesFolder, ServesIf, TellsLost, lost_front, manifest_path, ready_line}
 use Rattle.serve_core.specs.declared.refusals.Unbound.{Unbound}
+use Rattle.serve_core.specs.declared.task.Serving.{Serving}
 
 -- ---- a manifest that was read is told by its file
 
@@ -56,6 +61,15 @@ told_in disk path m events (FirstAlone fault first is) = absurd (not_err m fault
 pub told_at : (disk : DiskFacts) (path : Option (List ℕ)) (m : Manifest) (events : List Event) → ReadsManifest disk path (Ok m) events → IsToldAt disk path (told_by m)
 told_at disk None m events h = ap told_by (ok_same m Unnamed h.0)
 told_at disk (Some path) m events h = told_in disk path m events h
+
+-- ---- the folders of games are on the system of the task
+
+pub games_one : {C G : Type 0} (by : Serving C G) (t : Serve) (tables : FolderOn (SystemFiles G)) (games : Option (GamesByClock G C)) → tables.disk.system.now ≡ by.system.now → games ≡ games_for by t → AreOfOne tables games
+games_one {C} {G} by t tables games same is = subst (AreOfOne tables) (sym is) (of_named t.games)
+  where
+    of_named : (named : Option (Bor (List ℕ))) → AreOfOne tables (option_map (λ (g : Bor (List ℕ)). unread_games {C = C} (record { system = by.system.now; games = g.now; other = option_map (λ (s : Bor (List ℕ)). s.now) t.other }) by.times.now) named)
+    of_named None = tt
+    of_named (Some g) = sym same
 
 -- ---- the tables
 

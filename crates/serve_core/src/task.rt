@@ -149,13 +149,14 @@ fn serve_at<'r, C: Clock, L: Listener + Drop, T: Times, S: System>(
     let Ok(text) = ready_text(by.alloc, bound.own) else {
         return print_refusal(by.system, timeline, Refusal::Memory);
     };
-    match put_out(by.system, timeline, text.as_str()) {
+    let ready = text.as_str();
+    match put_out(by.system, timeline, ready) {
         Ok(_) => {}
         Err(fault) => return Err(fault),
     }
     let asked = Asked {
         alloc: by.alloc,
-        ready: text.as_str(),
+        ready,
         is_logged: task.log,
         requests: task.requests,
     };
