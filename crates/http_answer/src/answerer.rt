@@ -110,6 +110,7 @@ impl<'r, 's, S: System> Answerer<'r, 's, S> {
     }
 
     /// What tables say of a position and of its legal moves, or the refusal of the file of one that is needed.
+    #[tactic(auto, using(crate::proofs::OpenReadLaws::opens_reads))]
     fn line_of(&mut self, timeline: &mut S::Timeline, position: &Position) -> Result<ApiLine, AllocError>
         ensures answer { IfOk result (AnswersPosition (S.outside self.old.disk.system.now).disk self.old.folder position.now) }
         ensures same { self.new ≡ self.old }
@@ -125,6 +126,7 @@ impl<'r, 's, S: System> Answerer<'r, 's, S> {
     }
 
     /// What tables say of a position, or the refusal of the file of one that it needs.
+    #[tactic(auto, using(crate::proofs::OpenReadLaws::opens_reads))]
     pub(crate) fn line_alone(&mut self, timeline: &mut S::Timeline, position: &Position) -> Result<JsonLine, AllocError>
         ensures answer { IfOk result (AnswersAlone (S.outside self.old.disk.system.now).disk self.old.folder position.now) }
         ensures same { self.new ≡ self.old }
@@ -140,6 +142,7 @@ impl<'r, 's, S: System> Answerer<'r, 's, S> {
     }
 
     /// The answer for a text.
+    #[tactic(auto, using(crate::proofs::OpenReadLaws::no_reads))]
     fn line_for(&mut self, timeline: &mut S::Timeline, text: &[u8]) -> Result<ApiLine, AllocError>
         ensures answer { IfOk result (AnswersText (S.outside self.old.disk.system.now).disk self.old.folder text.now) }
         ensures same { self.new ≡ self.old }
@@ -152,6 +155,7 @@ impl<'r, 's, S: System> Answerer<'r, 's, S> {
     }
 
     /// What tables say of a position, or the refusal of the file of one that it needs.
+    #[tactic(auto, using(crate::proofs::OpenReadLaws::opens_reads))]
     fn position_by(
         &mut self, timeline: &mut S::Timeline,
         position: &Position,
@@ -172,6 +176,7 @@ impl<'r, 's, S: System> Answerer<'r, 's, S> {
     }
 
     /// The best move of a position, or the refusal of the file of a table that is needed.
+    #[tactic(auto, using(crate::proofs::OpenReadLaws::opens_reads))]
     fn best_move(
         &mut self, timeline: &mut S::Timeline,
         position: &Position,
@@ -239,6 +244,7 @@ impl<'r, 's, S: System> Answerer<'r, 's, S> {
     }
 
     /// A line of best play where a side wins, and else none; or the refusal of the file of a table that it comes to.
+    #[tactic(auto, using(crate::proofs::OpenReadLaws::no_reads))]
     fn line_of_play(
         &mut self, timeline: &mut S::Timeline,
         winner: Option<Side>,
@@ -272,6 +278,7 @@ impl<'r, 's, S: System> Answerer<'r, 's, S> {
     }
 
     /// The line of best play from the position of a text.
+    #[tactic(auto, using(crate::proofs::OpenReadLaws::no_reads))]
     fn mainline_for(&mut self, timeline: &mut S::Timeline, text: &[u8]) -> Result<ApiLine, AllocError>
         ensures answer { IfOk result (AnswersMainlineOf (S.outside self.old.disk.system.now).disk self.old.folder text.now) }
         ensures same { self.new ≡ self.old }
@@ -284,6 +291,7 @@ impl<'r, 's, S: System> Answerer<'r, 's, S> {
     }
 
     /// Adds the object for a line of a body, and a line feed.
+    #[tactic(auto, using(crate::proofs::OpenReadLaws::no_reads))]
     fn add_line(&mut self, timeline: &mut S::Timeline, words: &[u8], objects: &mut Vec<u8>) -> Result<(), AllocError>
         ensures answer { OnOk result (AddsObject (S.outside self.old.disk.system.now).disk self.old.folder words.now objects.old.items objects.new.items) }
         ensures same { self.new ≡ self.old }
@@ -321,6 +329,7 @@ impl<'r, 's, S: System> Answerer<'r, 's, S> {
     }
 
     /// Fills the response for what is asked for.
+    #[tactic(auto, using(crate::proofs::OpenReadLaws::no_reads))]
     fn reply(&mut self, timeline: &mut S::Timeline, topic: &Topic, response: &mut Response) -> Result<(), AllocError>
         requires { IsBlank response.old }
         ensures replied { OnOk result (IsReplyTo (S.outside self.old.disk.system.now).disk self.old.folder (asked_for topic.now) response.new) }

@@ -46,6 +46,7 @@ fn add_line(alloc: Global, text: &mut Writer, line: &JsonLine) -> Result<(), All
 }
 
 /// Adds a position and what tables say of it.
+#[tactic(auto, using(crate::proofs::OpenReadLaws::no_reads))]
 fn add_position<S: System>(
     answerer: &mut Answerer<'_, '_, S>,
     timeline: &mut S::Timeline,
@@ -63,6 +64,7 @@ fn add_position<S: System>(
 }
 
 /// Adds the ply before the first move.
+#[tactic(auto, using(crate::proofs::OpenReadLaws::no_reads))]
 fn add_start<S: System>(
     answerer: &mut Answerer<'_, '_, S>,
     timeline: &mut S::Timeline,
@@ -89,6 +91,7 @@ fn add_move(text: &mut Writer, m: &Move, san: &str) -> Result<(), AllocError>
 }
 
 /// Adds the ply after a move, and returns its position; none, and nothing is added, where the move isn't legal.
+#[tactic(auto, using(crate::proofs::OpenReadLaws::no_reads))]
 fn add_next<S: System>(
     answerer: &mut Answerer<'_, '_, S>,
     timeline: &mut S::Timeline,
@@ -166,6 +169,7 @@ fn add_plies_of<S: System>(
 }
 
 /// Adds the plies of a game by what is found of it.
+#[tactic(auto, using(crate::proofs::OpenReadLaws::no_reads))]
 fn add_plies<S: System>(
     answerer: &mut Answerer<'_, '_, S>,
     timeline: &mut S::Timeline,
@@ -184,6 +188,7 @@ fn add_plies<S: System>(
 }
 
 /// Adds the list of the plies of a game.
+#[tactic(auto, using(crate::proofs::OpenReadLaws::no_reads))]
 fn add_list<S: System>(
     answerer: &mut Answerer<'_, '_, S>,
     timeline: &mut S::Timeline,
@@ -212,6 +217,7 @@ fn delay_of(look: &Look) -> Option<u64>
 }
 
 /// Adds the object of a game by what is found of it.
+#[tactic(auto, using(crate::proofs::OpenReadLaws::no_reads))]
 fn add_game<S: System>(
     answerer: &mut Answerer<'_, '_, S>,
     timeline: &mut S::Timeline,

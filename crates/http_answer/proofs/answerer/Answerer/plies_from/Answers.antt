@@ -4,6 +4,7 @@ use Rattle.table_folder.specs.Settled.{IsRefusedFor, IsWithMoves}
 use Rattle.http_answer.specs.Inside.{IsOnePly}
 use Rattle.http_answer.proofs.BestPlay.{IsPlayedSoFar, all_played, line_ends, line_refused, none_left, one_left, one_ply_more}
 use Rattle.http_answer.proofs.AnswerLaws.{seen_by}
+use Rattle.http_answer.proofs.OpenReadLaws.{reads_then}
 use Rattle.http_answer.specs.Files.{files_of}
 use Rattle.http_answer.proofs.answerer.Answerer.plies_from.Goals as goal
 
@@ -32,6 +33,7 @@ loop-preserved g c =
     record {
       so_far = one_ply_more disk folder _ c.args.start.now c.loop.position c.loop.plies.items _ so_far c.in-Ok-Some.next (rw (c.in-Ok-Some.is, c.in-Ok-Some.field-0-is) at played);
       same = c.play_on.ensures.same ∙ c.loop.invariant.same;
+      made = reads_then g.S.System.outside _ _ _ _ _ c.loop.invariant.same c.loop.invariant.made c.play_on.ensures.made;
     }
 
 pub returns-clause-answer : goal.returns-clause-answer
@@ -40,3 +42,12 @@ returns-clause-answer g c =
     let folder = c.args.self.now.folder in
     all_played disk folder c.args.start.now c.loop.position c.loop.plies.items
     (subst (λ (n : ℕ). IsPlayedSoFar disk folder n c.args.start.now c.loop.position c.loop.plies.items) (none_left c.loop.counter (omega (arith, c.loop-test.false))) c.loop.invariant.so_far)
+
+pub returns-in-Ok-None-clause-made : goal.returns-in-Ok-None-clause-made
+returns-in-Ok-None-clause-made g c = reads_then g.S.System.outside _ _ _ _ _ c.loop.invariant.same c.loop.invariant.made c.play_on.ensures.made
+
+pub returns-in-Err-clause-made : goal.returns-in-Err-clause-made
+returns-in-Err-clause-made g c = reads_then g.S.System.outside _ _ _ _ _ c.loop.invariant.same c.loop.invariant.made c.play_on.ensures.made
+
+pub returns-in_err-play_on-clause-made : goal.returns-in_err-play_on-clause-made
+returns-in_err-play_on-clause-made g c = reads_then g.S.System.outside _ _ _ _ _ c.loop.invariant.same c.loop.invariant.made c.play_on.ensures.made
