@@ -3,7 +3,7 @@ use Rattle.std.proofs.Common.{◌≡◌, ◌∙◌, ◌++◌, ◌∷◌, [], ℕ
 use Rattle.std.specs.Prelude.{IfSome}
 use Rattle.game_reports.proofs.ReadingLaws.{none_read, one_read, readings_more}
 use Rattle.game_reports.specs.Readings.{AreReadings, OnlyReads}
-use Rattle.timeline.proofs.EventLaws.{adds_so}
+use Rattle.timeline.proofs.EventLaws.{adds_none, adds_so}
 use Rattle.timeline.specs.Events.{Event, Flushed, Noted, Passes, Wrote}
 use Rattle.timeline.specs.Outsides.{Adds, AddsSome, Outside}
 use Rattle.timeline.specs.declared.stream.Stream.TheVariants.{Output}
@@ -40,3 +40,6 @@ module _ {T P F K S L : Type 0} (o : Outside T P F K S L) where
 
   pub request_noted : (a b : T) (is_logged : Bool) (line other : List ℕ) → is_logged ≡ true → other ≡ line → Adds o a b (Noted other ∷ []) → AddsSome o a b (NotesRequest is_logged line)
   request_noted a b is_logged line other yes is p = (Noted other ∷ [], p, RequestNoted yes (ap (λ (l : List ℕ). Noted l ∷ []) is))
+
+  pub nothing_noted : (a : T) (is_logged : Bool) (line : List ℕ) → AddsSome o a a (NotesRequest is_logged line)
+  nothing_noted a is_logged line = ([], adds_none o a, RequestNotNoted refl)

@@ -4,7 +4,7 @@ ghost use Rattle.std.specs.Prelude.{◌≡◌, ◌++◌, ℕ, List, IfOk, OnErr,
 ghost use Rattle.answer_parts.specs.Printing.{OutputFails};
 ghost use Rattle.serve_core.specs.Limits.{HasLimits};
 ghost use Rattle.serve_core.specs.Refusals.{unbound_in};
-ghost use Rattle.serve_core.specs.Serve.{NotesUnbound, Serves, unbound_front};
+ghost use Rattle.serve_core.specs.Serve.{MayNote, NotesUnbound, Serves, unbound_front};
 ghost use Rattle.timeline.specs.Outsides.{AddsSome};
 
 use crate::pages::{Bound, Pages};
@@ -103,8 +103,24 @@ fn unbound_line(alloc: Global, address: &str, error: &io::Error) -> Result<Strin
     format!(in alloc; "{address} can't be bound: {error}")
 }
 
-/// Notes why an address can't be bound, and says which refusal that is.
+/// Notes why an address can't be bound.
 fn note_unbound<S: System>(
+    alloc: Global,
+    system: &S,
+    timeline: &mut S::Timeline,
+    address: &str,
+    error: &io::Error,
+)
+    ensures { AddsSome (S.outside system.now) timeline.old timeline.new (MayNote (unbound_front address.now)) }
+{
+    match unbound_line(alloc, address, error) {
+        Ok(line) => system.note(timeline, line.as_str()),
+        Err(_) => {}
+    }
+}
+
+/// Notes why an address can't be bound, and says which refusal that is.
+fn refuse_unbound<S: System>(
     alloc: Global,
     system: &S,
     timeline: &mut S::Timeline,
@@ -113,10 +129,7 @@ fn note_unbound<S: System>(
 ) -> Unbound
     ensures { AddsSome (S.outside system.now) timeline.old timeline.new (NotesUnbound address.now (Some result)) }
 {
-    match unbound_line(alloc, address, &error) {
-        Ok(line) => system.note(timeline, line.as_str()),
-        Err(_) => {}
-    }
+    note_unbound(alloc, system, timeline, address, &error);
     Unbound::by(error)
 }
 
@@ -132,7 +145,7 @@ fn open_noted<'g, G: Pages, S: System>(
 {
     match pages.open(alloc, address) {
         Ok(bound) => Ok(bound),
-        Err(error) => Err(note_unbound(alloc, system, timeline, address, error)),
+        Err(error) => Err(refuse_unbound(alloc, system, timeline, address, error)),
     }
 }
 
