@@ -1,5 +1,5 @@
 -- Games that are read for who asks, one thing after another.
-use Rattle.std.proofs.Common.{◌≡◌, ◌++◌, ℕ, List, Option, Some, None, refl, subst}
+use Rattle.std.proofs.Common.{◌≡◌, ◌++◌, ℕ, Bool, true, List, Option, Some, None, refl, subst}
 use Rattle.std.specs.Global.{Global}
 use Rattle.std.specs.List.{Contains}
 use Rattle.std.specs.Prelude.{Result, Ok, Err, Vec, is_some}
@@ -34,9 +34,10 @@ module _ {T P F K S L : Type 0} (o : Outside T P F K S L) where
   -- ---- all of it
 
   module _ (games : List ℕ) (other : Option (List ℕ)) where
-    pub reported : (a b c : T) (form : ReportForm) (f : KnownFolders) (text : Vec ℕ Global) → AddsSome o a b (OpensGames o games other (Ok f)) → AddsSome o b c (Finds {A = Vec ℕ Global} o.disk f (IsText (form_of form) (is_some f.other)) (Ok text))
-        → AddsSome o a c (ReadsReport o games other form (Some (Ok text.items)))
-    reported a b c form f text (first, p, opens) (last, q, (found, each, whole)) = (first ++ last, adds_more o a b c first last p q, IsReported f found text.items first last opens each whole refl refl)
+    pub reported : (a b c : T) (form : ReportForm) (f : KnownFolders) (compares : Bool) (text : Vec ℕ Global) → compares ≡ is_some f.other → AddsSome o a b (OpensGames o games other (Ok f))
+        → AddsSome o b c (Finds {A = Vec ℕ Global} o.disk f (IsText (form_of form) compares) (Ok text)) → AddsSome o a c (ReadsReport o games other form (Some (Ok text.items)))
+    reported a b c form f compares text same (first, p, opens) (last, q, (found, each, whole)) =
+        (first ++ last, adds_more o a b c first last p q, IsReported f found text.items first last opens each (subst (λ (x : Bool). (form_of form).Whole x found text.items true) same whole) refl refl)
 
     pub no_room_to_report : (a b c : T) (form : ReportForm) (f : KnownFolders) → AddsSome o a b (OpensGames o games other (Ok f)) → AddsSome o b c (FindsFirst o.disk f) → AddsSome o a c (ReadsReport o games other form None)
     no_room_to_report a b c form f (first, p, opens) (last, q, finds) = (first ++ last, adds_more o a b c first last p q, NoRoomToReport f first last opens finds refl refl)

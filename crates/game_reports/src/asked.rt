@@ -1,6 +1,6 @@
 //! Games that are read for who asks: all of them for a report, or one.
 
-ghost use Rattle.std.specs.Prelude.{◌↔◌, option_map, IfOk, IfSome, IsTrue};
+ghost use Rattle.std.specs.Prelude.{◌≡◌, ◌↔◌, option_map, IfOk, IfSome, IsTrue};
 ghost use Rattle.std.specs.List.{Contains};
 ghost use Rattle.game_reports.specs.Asked.{AreBothNamed, ReadsGame, ReadsReport, game_taken, report_taken};
 ghost use Rattle.game_reports.specs.Inside.Asking.{BothIn};
@@ -46,12 +46,19 @@ pub fn read_report<'a, S: System>(
     }
 }
 
+/// Whether two stamps are one.
+fn is_same_stamp(one: Stamp, other: Stamp) -> bool
+    ensures { IsTrue result ↔ (one ≡ other) }
+{
+    one == other
+}
+
 /// Whether a stamp is among others.
 fn is_among(stamps: &[Stamp], stamp: Stamp) -> bool
     ensures { IsTrue result ↔ Contains stamps.now stamp }
 {
     for other in stamps {
-        if *other == stamp {
+        if is_same_stamp(*other, stamp) {
             return true;
         }
     }
