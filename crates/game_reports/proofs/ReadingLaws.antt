@@ -51,7 +51,6 @@ module _ {T P F K S L : Type 0} (o : Outside T P F K S L) where
 
 -- ---- files
 
-
 gives_read : {A : Type 0} (a : A) (r : Result A ReadFault) (events : List Event) → Gives a r events → AreReadings events
 gives_read a r events h = none_read events h.1
 

@@ -1,5 +1,6 @@
 -- Folders of games that are read for one report, or for one game, one event after another (this project's own).
 use Rattle.std.specs.Prelude.{◌≡◌, ◌⊎◌, ◌++◌, true, ℕ, List, Option, Some, None, Result, Ok, Err, Vec, is_some, option_map}
+use Rattle.std.specs.Borrow.{Bor}
 use Rattle.std.specs.Global.{Global}
 use Rattle.std.specs.List.{Contains}
 use Rattle.answer_parts.specs.Lines.{refusal_words}
@@ -11,7 +12,7 @@ use Rattle.game_status.specs.declared.report.ReportForm.{ReportForm}
 use Rattle.game_status.specs.declared.status_lines.Look.{Look}
 use Rattle.system_io.specs.Disks.{DiskFacts}
 use Rattle.timeline.specs.Events.{Event}
-use Rattle.timeline.specs.Outsides.{Outside}
+use Rattle.timeline.specs.Outsides.{AddsSome, Outside}
 use Rattle.game_reports.specs.Folders.{KnownFolders, OpensGames}
 use Rattle.game_reports.specs.GameLooks.{ReadsLook}
 use Rattle.game_reports.specs.Statuses.{FindsFirst, FindsOne}
@@ -41,6 +42,10 @@ pub data ReadsReport {T P F K S L : Type 0} (o : Outside T P F K S L) (games : L
       → report ≡ None → events ≡ opening ++ reading → ReadsReport o games other form report events
   ReportRefused : (refusal : Refusal) → OpensGames o games other (Err (refusal_words refusal)) events → report ≡ Some (Err refusal)
       → ReadsReport o games other form report events
+
+-- so it is from one moment to a later one, and this is returned
+abbrev pub TakesReport : {T P F K S L E : Type 0} → Outside T P F K S L → T → T → Bor (List ℕ) → Option (Bor (List ℕ)) → ReportForm → Result (Result (Vec ℕ Global) Refusal) E → Type 0
+TakesReport o before after games other form result = AddsSome o before after (ReadsReport o games.now (option_map (λ s. s.now) other) form (report_taken result))
 
 -- ---- one game
 
@@ -73,3 +78,7 @@ pub data ReadsGame {T P F K S L : Type 0} (o : Outside T P F K S L) (games : Lis
       → ReadsBothLooks o.disk f stamp None reading → result ≡ None → events ≡ opening ++ reading → ReadsGame o games other stamp result events
   GameRefused : (refusal : Refusal) → OpensGames o games other (Err (refusal_words refusal)) events → result ≡ Some (Err refusal)
       → ReadsGame o games other stamp result events
+
+-- so it is from one moment to a later one, and this is returned
+abbrev pub TakesGame : {T P F K S L E : Type 0} → Outside T P F K S L → T → T → Bor (List ℕ) → Option (Bor (List ℕ)) → List ℕ → Result (Result (Option GameFound) Refusal) E → Type 0
+TakesGame o before after games other stamp result = AddsSome o before after (ReadsGame o games.now (option_map (λ s. s.now) other) stamp (game_taken result))

@@ -1,8 +1,8 @@
 //! Games that are read for who asks: all of them for a report, or one.
 
-ghost use Rattle.std.specs.Prelude.{◌≡◌, ◌↔◌, option_map, IfOk, IfSome, IsTrue};
+ghost use Rattle.std.specs.Prelude.{◌≡◌, ◌↔◌, IfOk, IfSome, IsTrue};
 ghost use Rattle.std.specs.List.{Contains};
-ghost use Rattle.game_reports.specs.Asked.{AreBothNamed, ReadsGame, ReadsReport, game_taken, report_taken};
+ghost use Rattle.game_reports.specs.Asked.{AreBothNamed, TakesGame, TakesReport};
 ghost use Rattle.game_reports.specs.Inside.Asking.{BothIn};
 ghost use Rattle.timeline.specs.Outsides.{AddsSome};
 
@@ -34,7 +34,7 @@ pub fn read_report<'a, S: System>(
     other: Option<&'a str>,
     form: ReportForm,
 ) -> Result<Result<Vec<u8>, Refusal>, AllocError>
-    ensures { AddsSome (S.outside system.now) timeline.old timeline.new (ReadsReport (S.outside system.now) games.now (option_map (λ s. s.now) other.entry) form (report_taken result)) }
+    ensures { TakesReport (S.outside system.now) timeline.old timeline.new games.entry other.entry form result }
 {
     let folders = match open_games(alloc, system, timeline, games, other) {
         Ok(folders) => folders,
@@ -96,7 +96,7 @@ pub fn read_game<'a, S: System>(
     other: Option<&'a str>,
     stamp: Stamp,
 ) -> Result<Result<Option<GameFound>, Refusal>, AllocError>
-    ensures made { AddsSome (S.outside system.now) timeline.old timeline.new (ReadsGame (S.outside system.now) games.now (option_map (λ s. s.now) other.entry) stamp (game_taken result)) }
+    ensures made { TakesGame (S.outside system.now) timeline.old timeline.new games.entry other.entry stamp result }
     ensures named { IfOk result (λ r. IfOk r (λ found. IfSome found AreBothNamed)) }
 {
     let folders = match open_games(alloc, system, timeline, games, other) {

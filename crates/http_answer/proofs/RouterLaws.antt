@@ -63,8 +63,8 @@ module _ {G C T P F K S L : Type 0} (outside : G → Outside T P F K S L) (says 
 
 -- ---- a router stays
 
-module _ {G C P F K R I : Type 0} (r : Router G C P F K R I) where
-  abbrev pub routed : FolderOn (SystemFiles G) → Option (GamesByClock G C) → Router G C P F K R I
+module _ {G C T P F K S L : Type 0} (r : Router G C T P F K S L) where
+  abbrev pub routed : FolderOn (SystemFiles G) → Option (GamesByClock G C) → Router G C T P F K S L
   routed answerer games = record { answerer = answerer; games = games }
 
   pub router_same : (a : FolderOn (SystemFiles G)) (g now : GamesByClock G C) → a ≡ r.answerer → now ≡ g → r.games ≡ Some g → routed a (Some now) ≡ r

@@ -67,7 +67,7 @@ games_on f = record { system = f.system.now; games = f.games.now; other = option
 -- at one time or another is one relation.
 abbrev pub IsSeen : {G T P F K S L A : Type 0} → (G → Outside T P F K S L) → GamesOn G
     → (Outside T P F K S L → List ℕ → Option (List ℕ) → A → List Event → Type 0) → A → Type 0
-IsSeen outside on Reads result = (events : List Event) × Reads (outside on.system) on.games on.other result events
+IsSeen outside on By result = (events : List Event) × By (outside on.system) on.games on.other result events
 
 -- what a refusal means: a folder can't be listed, or its store can't be read
 abbrev pub lacked_by : LackedFolder → Refusal
@@ -76,7 +76,7 @@ lacked_by lacked.Store = refusal.Store
 
 -- why there is nothing to see: so the first folder is refused, or else the second one
 abbrev pub LacksGames : {G T P F K S L : Type 0} → (G → Outside T P F K S L) → GamesOn G → LackedFolder → Type 0
-LacksGames outside on why = IsSeen outside on (λ o games other _. OpensGames o games other (Err (refusal_words (lacked_by why)))) tt
+LacksGames outside on why = (events : List Event) × OpensGames (outside on.system) on.games on.other (Err (refusal_words (lacked_by why))) events
 
 -- the text of a report, as `status` writes it in this form
 abbrev pub IsReportText : {G T P F K S L : Type 0} → (G → Outside T P F K S L) → GamesOn G → ReportForm → List ℕ → Type 0

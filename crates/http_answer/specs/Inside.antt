@@ -44,7 +44,7 @@ use Rattle.http_answer.specs.Queries.{asked_lines, position_text}
 use Rattle.http_answer.specs.Places.{Action, Place as PlaceHere}
 use Rattle.http_answer.specs.Places.Action.{Reads, ListsMethods, IsRefused, IsUnknown}
 use Rattle.http_answer.specs.Places.Place.{Board, Positions, Mainlines, FoldersOfGames, Whole}
-use Rattle.http_answer.specs.Replies.{Asked, IsPlayedOn, AnswersEach, AnswersText, object_text, objects_text}
+use Rattle.http_answer.specs.Replies.{Asked, HasLines, IsPlayedOn, AnswersEach, AnswersText, object_text, objects_text}
 use Rattle.http_answer.specs.Replies.Asked.{Page, Values, Mainline, NoText, ValuesOfEach, TooMany, Methods, OtherMethod, UnknownMethod, Elsewhere}
 
 -- what is at a path, of the code's own value for it
@@ -82,6 +82,10 @@ AddsObject disk folder words old new = (l : ApiLine) × AnswersText disk folder 
 -- these are the objects for the lines of a body
 abbrev pub AreObjects : DiskFacts → Folder → List ℕ → List ℕ → Type 0
 AreObjects disk folder body objects = (ls : List ApiLine) × AnswersEach disk folder (asked_lines body) ls × (objects ≡ objects_text ls)
+
+-- the response has the answers for these texts
+abbrev pub HasAnswers : DiskFacts → Folder → List (List ℕ) → Response → Type 0
+HasAnswers disk folder texts r = (ls : List ApiLine) × AnswersEach disk folder texts ls × HasLines ls r
 
 -- One ply of a line of best play: no move is legal, or one is added, which ends the line or leads to this position.
 abbrev pub IsOnePly : DiskFacts → Folder → Parts → List ApiMove → List ApiMove → Option Parts → Type 0

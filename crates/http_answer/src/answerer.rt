@@ -3,7 +3,7 @@
 ghost use Rattle.std.specs.Prelude.{◌≡◌, ◌≤◌, ◌++◌, ◌∷◌, [], List, IfErr, IfOk, OnOk};
 ghost use Rattle.http_server.specs.Response.{IsBlank};
 ghost use Rattle.http_answer.specs.Games.{AnswersAlone};
-ghost use Rattle.http_answer.specs.Inside.{AddsObject, AreObjects, IsOnePly, asked_for};
+ghost use Rattle.http_answer.specs.Inside.{AddsObject, AreObjects, HasAnswers, IsOnePly, asked_for};
 ghost use Rattle.http_answer.specs.Queries.{asked_lines};
 ghost use Rattle.http_answer.specs.Replies.{HasLine, HasLines, IsBestPlay, IsLineOfPlay, IsPlayedOn, IsPositionBy, IsRefusedInLine, IsRefusedLineOf, IsReply, IsReplyTo, RefusesFile, AnswersMainline, AnswersMainlineOf, AnswersEach, AnswersPosition, AnswersText, most_plies, refused_words};
 ghost use Rattle.game_reports.specs.Readings.{OnlyReads};
@@ -111,8 +111,12 @@ impl<'r, 's, S: System> Answerer<'r, 's, S> {
 
     /// What tables say of a position and of its legal moves, or the refusal of the file of one that is needed.
     #[tactic(auto, using(crate::proofs::OpenReadLaws::opens_reads))]
-    fn line_of(&mut self, timeline: &mut S::Timeline, position: &Position) -> Result<ApiLine, AllocError>
-        ensures answer { IfOk result (AnswersPosition (S.outside self.old.disk.system.now).disk self.old.folder position.now) }
+    fn line_of(
+        &mut self,
+        timeline: &mut S::Timeline,
+        position: &Position,
+    ) -> Result<ApiLine, AllocError>
+        ensures answer { IfOk result (AnswersPosition (files_of S.outside self.old.disk) self.old.folder position.now) }
         ensures same { self.new ≡ self.old }
         ensures made { OnlyReads (S.outside self.old.disk.system.now) timeline.old timeline.new }
     {
@@ -127,8 +131,12 @@ impl<'r, 's, S: System> Answerer<'r, 's, S> {
 
     /// What tables say of a position, or the refusal of the file of one that it needs.
     #[tactic(auto, using(crate::proofs::OpenReadLaws::opens_reads))]
-    pub(crate) fn line_alone(&mut self, timeline: &mut S::Timeline, position: &Position) -> Result<JsonLine, AllocError>
-        ensures answer { IfOk result (AnswersAlone (S.outside self.old.disk.system.now).disk self.old.folder position.now) }
+    pub(crate) fn line_alone(
+        &mut self,
+        timeline: &mut S::Timeline,
+        position: &Position,
+    ) -> Result<JsonLine, AllocError>
+        ensures answer { IfOk result (AnswersAlone (files_of S.outside self.old.disk) self.old.folder position.now) }
         ensures same { self.new ≡ self.old }
         ensures made { OnlyReads (S.outside self.old.disk.system.now) timeline.old timeline.new }
     {
@@ -144,7 +152,7 @@ impl<'r, 's, S: System> Answerer<'r, 's, S> {
     /// The answer for a text.
     #[tactic(auto, using(crate::proofs::OpenReadLaws::no_reads))]
     fn line_for(&mut self, timeline: &mut S::Timeline, text: &[u8]) -> Result<ApiLine, AllocError>
-        ensures answer { IfOk result (AnswersText (S.outside self.old.disk.system.now).disk self.old.folder text.now) }
+        ensures answer { IfOk result (AnswersText (files_of S.outside self.old.disk) self.old.folder text.now) }
         ensures same { self.new ≡ self.old }
         ensures made { OnlyReads (S.outside self.old.disk.system.now) timeline.old timeline.new }
     {
@@ -157,11 +165,12 @@ impl<'r, 's, S: System> Answerer<'r, 's, S> {
     /// What tables say of a position, or the refusal of the file of one that it needs.
     #[tactic(auto, using(crate::proofs::OpenReadLaws::opens_reads))]
     fn position_by(
-        &mut self, timeline: &mut S::Timeline,
+        &mut self,
+        timeline: &mut S::Timeline,
         position: &Position,
     ) -> Result<Result<ApiPosition, FileRefusal>, AllocError>
-        ensures answer { IfOk result (λ found. IfOk found (IsPositionBy (S.outside self.old.disk.system.now).disk self.old.folder position.now)) }
-        ensures refused { IfOk result (λ found. IfErr found (IsRefusedAt (S.outside self.old.disk.system.now).disk self.old.folder position.now)) }
+        ensures answer { IfOk result (λ found. IfOk found (IsPositionBy (files_of S.outside self.old.disk) self.old.folder position.now)) }
+        ensures refused { IfOk result (λ found. IfErr found (IsRefusedAt (files_of S.outside self.old.disk) self.old.folder position.now)) }
         ensures same { self.new ≡ self.old }
         ensures made { OnlyReads (S.outside self.old.disk.system.now) timeline.old timeline.new }
     {
@@ -178,11 +187,12 @@ impl<'r, 's, S: System> Answerer<'r, 's, S> {
     /// The best move of a position, or the refusal of the file of a table that is needed.
     #[tactic(auto, using(crate::proofs::OpenReadLaws::opens_reads))]
     fn best_move(
-        &mut self, timeline: &mut S::Timeline,
+        &mut self,
+        timeline: &mut S::Timeline,
         position: &Position,
     ) -> Result<Result<Option<ApiMove>, FileRefusal>, AllocError>
-        ensures answer { IfOk result (λ found. IfOk found (IsPlayedOn (S.outside self.old.disk.system.now).disk self.old.folder position.now)) }
-        ensures refused { IfOk result (λ found. IfErr found (IsRefusedFor (S.outside self.old.disk.system.now).disk self.old.folder (IsWithMoves position.now))) }
+        ensures answer { IfOk result (λ found. IfOk found (IsPlayedOn (files_of S.outside self.old.disk) self.old.folder position.now)) }
+        ensures refused { IfOk result (λ found. IfErr found (IsRefusedFor (files_of S.outside self.old.disk) self.old.folder (IsWithMoves position.now))) }
         ensures same { self.new ≡ self.old }
         ensures made { OnlyReads (S.outside self.old.disk.system.now) timeline.old timeline.new }
     {
@@ -198,12 +208,13 @@ impl<'r, 's, S: System> Answerer<'r, 's, S> {
 
     /// One ply of a line of best play from a position, added to those before it: whether the line goes on, and from which position.
     fn play_on(
-        &mut self, timeline: &mut S::Timeline,
+        &mut self,
+        timeline: &mut S::Timeline,
         position: &Position,
         plies: &mut Vec<ApiMove>,
     ) -> Result<Result<Option<Position>, FileRefusal>, AllocError>
-        ensures played { IfOk result (λ found. IfOk found (IsOnePly (S.outside self.old.disk.system.now).disk self.old.folder position.now plies.old.items plies.new.items)) }
-        ensures refused { IfOk result (λ found. IfErr found (IsRefusedFor (S.outside self.old.disk.system.now).disk self.old.folder (IsWithMoves position.now))) }
+        ensures played { IfOk result (λ found. IfOk found (IsOnePly (files_of S.outside self.old.disk) self.old.folder position.now plies.old.items plies.new.items)) }
+        ensures refused { IfOk result (λ found. IfErr found (IsRefusedFor (files_of S.outside self.old.disk) self.old.folder (IsWithMoves position.now))) }
         ensures same { self.new ≡ self.old }
         ensures made { OnlyReads (S.outside self.old.disk.system.now) timeline.old timeline.new }
     {
@@ -223,11 +234,12 @@ impl<'r, 's, S: System> Answerer<'r, 's, S> {
 
     /// A line of best play, or the refusal of the file of a table that it comes to.
     fn plies_from(
-        &mut self, timeline: &mut S::Timeline,
+        &mut self,
+        timeline: &mut S::Timeline,
         start: &Position,
     ) -> Result<Result<Vec<ApiMove>, FileRefusal>, AllocError>
-        ensures answer { IfOk result (λ found. IfOk found (λ plies. IsBestPlay (S.outside self.old.disk.system.now).disk self.old.folder start.now plies.items)) }
-        ensures refused { IfOk result (λ found. IfErr found (IsRefusedInLine (S.outside self.old.disk.system.now).disk self.old.folder most_plies start.now)) }
+        ensures answer { IfOk result (λ found. IfOk found (λ plies. IsBestPlay (files_of S.outside self.old.disk) self.old.folder start.now plies.items)) }
+        ensures refused { IfOk result (λ found. IfErr found (IsRefusedInLine (files_of S.outside self.old.disk) self.old.folder most_plies start.now)) }
         ensures same { self.new ≡ self.old }
         ensures made { OnlyReads (S.outside self.old.disk.system.now) timeline.old timeline.new }
     {
@@ -246,12 +258,13 @@ impl<'r, 's, S: System> Answerer<'r, 's, S> {
     /// A line of best play where a side wins, and else none; or the refusal of the file of a table that it comes to.
     #[tactic(auto, using(crate::proofs::OpenReadLaws::no_reads))]
     fn line_of_play(
-        &mut self, timeline: &mut S::Timeline,
+        &mut self,
+        timeline: &mut S::Timeline,
         winner: Option<Side>,
         start: &Position,
     ) -> Result<Result<Vec<ApiMove>, FileRefusal>, AllocError>
-        ensures answer { IfOk result (λ found. IfOk found (λ plies. IsLineOfPlay (S.outside self.old.disk.system.now).disk self.old.folder winner start.now plies.items)) }
-        ensures refused { IfOk result (λ found. IfErr found (IsRefusedLineOf (S.outside self.old.disk.system.now).disk self.old.folder winner start.now)) }
+        ensures answer { IfOk result (λ found. IfOk found (λ plies. IsLineOfPlay (files_of S.outside self.old.disk) self.old.folder winner start.now plies.items)) }
+        ensures refused { IfOk result (λ found. IfErr found (IsRefusedLineOf (files_of S.outside self.old.disk) self.old.folder winner start.now)) }
         ensures same { self.new ≡ self.old }
         ensures made { OnlyReads (S.outside self.old.disk.system.now) timeline.old timeline.new }
     {
@@ -262,8 +275,12 @@ impl<'r, 's, S: System> Answerer<'r, 's, S> {
     }
 
     /// A position and the line of best play from it, or the refusal of the file of a table that is needed.
-    fn mainline_of(&mut self, timeline: &mut S::Timeline, position: &Position) -> Result<ApiLine, AllocError>
-        ensures answer { IfOk result (AnswersMainline (S.outside self.old.disk.system.now).disk self.old.folder position.now) }
+    fn mainline_of(
+        &mut self,
+        timeline: &mut S::Timeline,
+        position: &Position,
+    ) -> Result<ApiLine, AllocError>
+        ensures answer { IfOk result (AnswersMainline (files_of S.outside self.old.disk) self.old.folder position.now) }
         ensures same { self.new ≡ self.old }
         ensures made { OnlyReads (S.outside self.old.disk.system.now) timeline.old timeline.new }
     {
@@ -279,8 +296,12 @@ impl<'r, 's, S: System> Answerer<'r, 's, S> {
 
     /// The line of best play from the position of a text.
     #[tactic(auto, using(crate::proofs::OpenReadLaws::no_reads))]
-    fn mainline_for(&mut self, timeline: &mut S::Timeline, text: &[u8]) -> Result<ApiLine, AllocError>
-        ensures answer { IfOk result (AnswersMainlineOf (S.outside self.old.disk.system.now).disk self.old.folder text.now) }
+    fn mainline_for(
+        &mut self,
+        timeline: &mut S::Timeline,
+        text: &[u8],
+    ) -> Result<ApiLine, AllocError>
+        ensures answer { IfOk result (AnswersMainlineOf (files_of S.outside self.old.disk) self.old.folder text.now) }
         ensures same { self.new ≡ self.old }
         ensures made { OnlyReads (S.outside self.old.disk.system.now) timeline.old timeline.new }
     {
@@ -292,8 +313,13 @@ impl<'r, 's, S: System> Answerer<'r, 's, S> {
 
     /// Adds the object for a line of a body, and a line feed.
     #[tactic(auto, using(crate::proofs::OpenReadLaws::no_reads))]
-    fn add_line(&mut self, timeline: &mut S::Timeline, words: &[u8], objects: &mut Vec<u8>) -> Result<(), AllocError>
-        ensures answer { OnOk result (AddsObject (S.outside self.old.disk.system.now).disk self.old.folder words.now objects.old.items objects.new.items) }
+    fn add_line(
+        &mut self,
+        timeline: &mut S::Timeline,
+        words: &[u8],
+        objects: &mut Vec<u8>,
+    ) -> Result<(), AllocError>
+        ensures answer { OnOk result (AddsObject (files_of S.outside self.old.disk) self.old.folder words.now objects.old.items objects.new.items) }
         ensures same { self.new ≡ self.old }
         ensures made { OnlyReads (S.outside self.old.disk.system.now) timeline.old timeline.new }
     {
@@ -303,8 +329,12 @@ impl<'r, 's, S: System> Answerer<'r, 's, S> {
     }
 
     /// The objects for the lines of a body, a line each.
-    fn objects_for(&mut self, timeline: &mut S::Timeline, body: &[u8]) -> Result<Vec<u8>, AllocError>
-        ensures answer { IfOk result (λ objects. AreObjects (S.outside self.old.disk.system.now).disk self.old.folder body.now objects.items) }
+    fn objects_for(
+        &mut self,
+        timeline: &mut S::Timeline,
+        body: &[u8],
+    ) -> Result<Vec<u8>, AllocError>
+        ensures answer { IfOk result (λ objects. AreObjects (files_of S.outside self.old.disk) self.old.folder body.now objects.items) }
         ensures same { self.new ≡ self.old }
         ensures made { OnlyReads (S.outside self.old.disk.system.now) timeline.old timeline.new }
     {
@@ -318,9 +348,14 @@ impl<'r, 's, S: System> Answerer<'r, 's, S> {
     }
 
     /// Fills the response for the lines of a body.
-    fn answer_lines(&mut self, timeline: &mut S::Timeline, body: &[u8], response: &mut Response) -> Result<(), AllocError>
+    fn answer_lines(
+        &mut self,
+        timeline: &mut S::Timeline,
+        body: &[u8],
+        response: &mut Response,
+    ) -> Result<(), AllocError>
         requires { IsBlank response.old }
-        ensures answer { OnOk result ((ls : List ApiLine) × AnswersEach (S.outside self.old.disk.system.now).disk self.old.folder (asked_lines body.now) ls × HasLines ls response.new) }
+        ensures answer { OnOk result (HasAnswers (files_of S.outside self.old.disk) self.old.folder (asked_lines body.now) response.new) }
         ensures same { self.new ≡ self.old }
         ensures made { OnlyReads (S.outside self.old.disk.system.now) timeline.old timeline.new }
     {
@@ -330,16 +365,23 @@ impl<'r, 's, S: System> Answerer<'r, 's, S> {
 
     /// Fills the response for what is asked for.
     #[tactic(auto, using(crate::proofs::OpenReadLaws::no_reads))]
-    fn reply(&mut self, timeline: &mut S::Timeline, topic: &Topic, response: &mut Response) -> Result<(), AllocError>
+    fn reply(
+        &mut self,
+        timeline: &mut S::Timeline,
+        topic: &Topic,
+        response: &mut Response,
+    ) -> Result<(), AllocError>
         requires { IsBlank response.old }
-        ensures replied { OnOk result (IsReplyTo (S.outside self.old.disk.system.now).disk self.old.folder (asked_for topic.now) response.new) }
+        ensures replied { OnOk result (IsReplyTo (files_of S.outside self.old.disk) self.old.folder (asked_for topic.now) response.new) }
         ensures same { self.new ≡ self.old }
         ensures made { OnlyReads (S.outside self.old.disk.system.now) timeline.old timeline.new }
     {
         match topic {
             Topic::Page => fill_page(response, PAGE),
             Topic::Values(text) => fill_line(self.alloc, response, &self.line_for(timeline, text)?),
-            Topic::Mainline(text) => { fill_line(self.alloc, response, &self.mainline_for(timeline, text)?) }
+            Topic::Mainline(text) => {
+                fill_line(self.alloc, response, &self.mainline_for(timeline, text)?)
+            }
             Topic::NoText => fill_error(
                 response,
                 StatusCode::BAD_REQUEST,

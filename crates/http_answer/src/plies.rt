@@ -7,6 +7,7 @@ ghost use Rattle.json.specs.Tree.{json_tokens};
 ghost use Rattle.json_lines.specs.Objects.{line_json};
 ghost use Rattle.game_status.specs.StatusObjects.{AddsMembers, AddsTokens, AreNamed};
 ghost use Rattle.game_reports.specs.Readings.{OnlyReads};
+ghost use Rattle.http_answer.specs.Files.{files_of};
 ghost use Rattle.http_answer.specs.Games.{ArePliesOf, HasPlies, delay_in, moves_in};
 ghost use Rattle.http_answer.specs.Inside.{AddsGame, AddsList, AddsMoves, AddsNext, AddsPlies, AddsPosition, AddsStart, IsGameText, move_members};
 
@@ -53,7 +54,7 @@ fn add_position<S: System>(
     text: &mut Writer,
     position: &Position,
 ) -> Result<(), AllocError>
-    ensures added { OnOk result (AddsPosition (S.outside answerer.old.disk.system.now).disk answerer.old.folder position.now text.old text.new) }
+    ensures added { OnOk result (AddsPosition (files_of S.outside answerer.old.disk) answerer.old.folder position.now text.old text.new) }
     ensures same { answerer.new ≡ answerer.old }
     ensures made { OnlyReads (S.outside answerer.old.disk.system.now) timeline.old timeline.new }
 {
@@ -71,7 +72,7 @@ fn add_start<S: System>(
     text: &mut Writer,
     start: &Position,
 ) -> Result<(), AllocError>
-    ensures added { OnOk result (AddsStart (S.outside answerer.old.disk.system.now).disk answerer.old.folder start.now text.old text.new) }
+    ensures added { OnOk result (AddsStart (files_of S.outside answerer.old.disk) answerer.old.folder start.now text.old text.new) }
     ensures same { answerer.new ≡ answerer.old }
     ensures made { OnlyReads (S.outside answerer.old.disk.system.now) timeline.old timeline.new }
 {
@@ -99,7 +100,7 @@ fn add_next<S: System>(
     position: &Position,
     m: &Move,
 ) -> Result<Option<Position>, AllocError>
-    ensures added { IfOk result (λ next. IfSome next (AddsNext (S.outside answerer.old.disk.system.now).disk answerer.old.folder position.now m.now text.old text.new)) }
+    ensures added { IfOk result (λ next. IfSome next (AddsNext (files_of S.outside answerer.old.disk) answerer.old.folder position.now m.now text.old text.new)) }
     ensures none { IfOk result (λ next. IfNone next (position_after position.now m.now ≡ None)) }
     ensures nothing { IfOk result (λ next. IfNone next (text.new ≡ text.old)) }
     ensures same { answerer.new ≡ answerer.old }
@@ -126,7 +127,7 @@ fn add_moves<S: System>(
     start: &Position,
     moves: &[Move],
 ) -> Result<(), AllocError>
-    ensures added { OnOk result (AddsMoves (S.outside answerer.old.disk.system.now).disk answerer.old.folder start.now moves.now text.old text.new) }
+    ensures added { OnOk result (AddsMoves (files_of S.outside answerer.old.disk) answerer.old.folder start.now moves.now text.old text.new) }
     ensures same { answerer.new ≡ answerer.old }
     ensures made { OnlyReads (S.outside answerer.old.disk.system.now) timeline.old timeline.new }
 {
@@ -159,7 +160,7 @@ fn add_plies_of<S: System>(
     text: &mut Writer,
     side: &Side,
 ) -> Result<(), AllocError>
-    ensures added { OnOk result (AddsPlies (ArePliesOf (S.outside answerer.old.disk.system.now).disk answerer.old.folder side.now) text.old text.new) }
+    ensures added { OnOk result (AddsPlies (ArePliesOf (files_of S.outside answerer.old.disk) answerer.old.folder side.now) text.old text.new) }
     ensures same { answerer.new ≡ answerer.old }
     ensures made { OnlyReads (S.outside answerer.old.disk.system.now) timeline.old timeline.new }
 {
@@ -176,7 +177,7 @@ fn add_plies<S: System>(
     text: &mut Writer,
     look: &Look,
 ) -> Result<(), AllocError>
-    ensures added { OnOk result (AddsPlies (HasPlies (S.outside answerer.old.disk.system.now).disk answerer.old.folder look.now) text.old text.new) }
+    ensures added { OnOk result (AddsPlies (HasPlies (files_of S.outside answerer.old.disk) answerer.old.folder look.now) text.old text.new) }
     ensures same { answerer.new ≡ answerer.old }
     ensures made { OnlyReads (S.outside answerer.old.disk.system.now) timeline.old timeline.new }
 {
@@ -195,7 +196,7 @@ fn add_list<S: System>(
     text: &mut Writer,
     look: &Look,
 ) -> Result<(), AllocError>
-    ensures added { OnOk result (AddsList (HasPlies (S.outside answerer.old.disk.system.now).disk answerer.old.folder look.now) text.old text.new) }
+    ensures added { OnOk result (AddsList (HasPlies (files_of S.outside answerer.old.disk) answerer.old.folder look.now) text.old text.new) }
     ensures same { answerer.new ≡ answerer.old }
     ensures made { OnlyReads (S.outside answerer.old.disk.system.now) timeline.old timeline.new }
 {
@@ -228,7 +229,7 @@ fn add_game<S: System>(
 ) -> Result<(), AllocError>
     requires first { AreNamed found.now.first }
     requires both { AreNamed found.now.both }
-    ensures added { OnOk result (AddsGame (S.outside answerer.old.disk.system.now).disk answerer.old.folder compares stamp found.now text.old text.new) }
+    ensures added { OnOk result (AddsGame (files_of S.outside answerer.old.disk) answerer.old.folder compares stamp found.now text.old text.new) }
     ensures same { answerer.new ≡ answerer.old }
     ensures made { OnlyReads (S.outside answerer.old.disk.system.now) timeline.old timeline.new }
 {
@@ -251,7 +252,7 @@ pub(crate) fn game_text<S: System>(
 ) -> Result<Vec<u8>, AllocError>
     requires first { AreNamed found.now.first }
     requires both { AreNamed found.now.both }
-    ensures text { IfOk result (λ text. IsGameText (S.outside answerer.old.disk.system.now).disk answerer.old.folder compares stamp found.now text.items) }
+    ensures text { IfOk result (λ text. IsGameText (files_of S.outside answerer.old.disk) answerer.old.folder compares stamp found.now text.items) }
     ensures same { answerer.new ≡ answerer.old }
     ensures made { OnlyReads (S.outside answerer.old.disk.system.now) timeline.old timeline.new }
 {

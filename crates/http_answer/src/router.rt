@@ -201,7 +201,7 @@ fn fill_game<S: System>(
 ) -> Result<(), AllocError>
     requires named { AreBothNamed found.now }
     requires blank { IsBlank response.old }
-    ensures game { OnOk result (HasGameText (S.outside answerer.old.disk.system.now).disk answerer.old.folder compares stamp found.now response.new) }
+    ensures game { OnOk result (HasGameText (files_of S.outside answerer.old.disk) answerer.old.folder compares stamp found.now response.new) }
     ensures same { answerer.new ≡ answerer.old }
     ensures made { OnlyReads (S.outside answerer.old.disk.system.now) timeline.old timeline.new }
 {
@@ -228,13 +228,20 @@ fn answer_game<S: System, C: Times>(
 ) -> Result<(), AllocError>
     requires one { games.now.on.system ≡ answerer.old.disk.system.now }
     requires blank { IsBlank response.old }
-    ensures game { OnOk result (HasGame (S.outside answerer.old.disk.system.now).disk answerer.old.folder S.outside games.now.on stamp response.new) }
+    ensures game { OnOk result (HasGame (files_of S.outside answerer.old.disk) answerer.old.folder S.outside games.now.on stamp response.new) }
     ensures same { answerer.new ≡ answerer.old }
     ensures made { OnlyReads (S.outside answerer.old.disk.system.now) timeline.old timeline.new }
 {
     match games.game(timeline, stamp)? {
         Ok(Some(found)) => {
-            fill_game(answerer, timeline, stamp, &found, games.compares(), response)
+            fill_game(
+                answerer,
+                timeline,
+                stamp,
+                &found,
+                games.compares(),
+                response,
+            )
         }
         Ok(None) => fill_fresh_json(
             response,
@@ -255,7 +262,7 @@ fn answer_game_with_room<S: System, C: Times>(
 ) -> Result<(), AllocError>
     requires one { games.now.on.system ≡ answerer.old.disk.system.now }
     requires blank { IsBlank response.old }
-    ensures game { OnOk result (HasGame (S.outside answerer.old.disk.system.now).disk answerer.old.folder S.outside games.now.on stamp response.new) }
+    ensures game { OnOk result (HasGame (files_of S.outside answerer.old.disk) answerer.old.folder S.outside games.now.on stamp response.new) }
     ensures same { answerer.new ≡ answerer.old }
     ensures made { OnlyReads (S.outside answerer.old.disk.system.now) timeline.old timeline.new }
 {

@@ -21,8 +21,8 @@ module _ {G C T P F K S L D J R W : Type 0} (outside : G → Outside T P F K S L
   MayReply tables games old new r = RepliesBy outside says tables games streams remaining contents old new ⊎ ((new ≡ old) × (r ≢ Ok 0))
 
   -- so it is by the folders of a service
-  abbrev pub MayRoute : FolderOn (SystemFiles G) → Option (GamesByClock G C) → Server D J R W → Server D J R W → Result ℕ WriteFault → Type 0
-  MayRoute tables games old new r = MayReply tables (places_of games) old new r
+  abbrev pub MayRoute : FolderOn (SystemFiles G) → Option (GamesByClock G C) → Bound D J R W → Bound D J R W → Result ℕ WriteFault → Type 0
+  MayRoute tables games old new r = MayReply tables (places_of games) old.server new.server r
 
   -- so it is by the folders of games that the words name
   abbrev pub MayServe : Serving C G → Serve → FolderOn (SystemFiles G) → Bound D J R W → Bound D J R W → Result ℕ WriteFault → Type 0

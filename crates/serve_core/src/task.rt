@@ -83,11 +83,7 @@ fn ready_text(alloc: Global, own: SocketAddr) -> Result<String, AllocError>
 }
 
 /// Writes a text, and lets it go out.
-fn put_out<S: System>(
-    system: &S,
-    timeline: &mut S::Timeline,
-    text: &str,
-) -> Result<u8, WriteFault>
+fn put_out<S: System>(system: &S, timeline: &mut S::Timeline, text: &str) -> Result<u8, WriteFault>
     ensures made { AddsSome (S.outside system.now) timeline.old timeline.new (Performs (GoesOut text.now) result) }
     ensures since { OnOk result (OnlyReadsSince (S.outside system.now) timeline.new text.now) }
     ensures cause { OnErr result (OutputFails (S.outside system.now)) }
@@ -144,7 +140,7 @@ fn serve_at<'r, C: Clock, L: Listener + Drop, T: Times, S: System>(
     requires same { by.now.system.now ≡ router.entry.answerer.disk.system.now }
     ensures made { ServesFolder (S.outside by.now.system.now) None timeline.old timeline.new result }
     ensures cause { OnErr result (OutputFails (S.outside by.now.system.now)) }
-    ensures replied { MayRoute S.outside T.says L.streams L.Reader.remaining L.Writer.contents router.entry.answerer router.entry.games bound.old.server bound.new.server result }
+    ensures replied { MayRoute S.outside T.says L.streams L.Reader.remaining L.Writer.contents router.entry.answerer router.entry.games bound.old bound.new result }
 {
     let Ok(text) = ready_text(by.alloc, bound.own) else {
         return print_refusal(by.system, timeline, Refusal::Memory);
@@ -229,14 +225,7 @@ pub fn serve_task<C: Clock, L: Listener + Drop, T: Times, S: System>(
     };
     let files = SystemFiles { system: by.system };
     let arena = arena_for(by.alloc, task.memory);
-    match TableFolder::open(
-        by.alloc,
-        &files,
-        timeline,
-        task.tables,
-        &manifest,
-        &arena,
-    ) {
+    match TableFolder::open(by.alloc, &files, timeline, task.tables, &manifest, &arena) {
         Ok(folder) => serve_folder_if(by, timeline, folder, task, bound),
         Err(fault) => print_refusal(by.system, timeline, Refusal::unread(fault)),
     }

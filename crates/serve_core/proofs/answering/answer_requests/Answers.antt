@@ -12,9 +12,9 @@ returns-clause-replied g c =
     let rounds = c.answer_rounds-answered.ensures in
     let server = c.close.new.self in
     λ before h.
-        all_have_replies outside says _ _ g.L.Reader.Read.remaining g.L.Writer.Write.contents (config_of server) rounds.0 before (g.L.Listener.streams (listener_of server)) server.peers
-        (all_routed outside says (λ v. v.tables) (λ v. v.games) rounds.0 _ _ (chain_routes outside says rounds.0 _ _ rounds.1))
-        (c.close.ensures.closed rounds.0 before (rounds.2 [] before h)) (c.close.ensures.served rounds.0 before (rounds.2 [] before h))
+    all_have_replies outside says _ _ g.L.Reader.Read.remaining g.L.Writer.Write.contents (config_of server) rounds.0 before (g.L.Listener.streams (listener_of server)) server.peers
+    (all_routed outside says (λ v. v.tables) (λ v. v.games) rounds.0 _ _ (chain_routes outside says rounds.0 _ _ rounds.1))
+    (c.close.ensures.closed rounds.0 before (rounds.2 [] before h)) (c.close.ensures.served rounds.0 before (rounds.2 [] before h))
 
 pub returns-clause-since : goal.returns-clause-since
 returns-clause-since g c =
