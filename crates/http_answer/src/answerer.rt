@@ -8,7 +8,6 @@ ghost use Rattle.http_answer.specs.Queries.{asked_lines};
 ghost use Rattle.http_answer.specs.Replies.{HasLine, HasLines, IsBestPlay, IsLineOfPlay, IsPlayedOn, IsPositionBy, IsRefusedInLine, IsRefusedLineOf, IsReply, IsReplyTo, RefusesFile, AnswersMainline, AnswersMainlineOf, AnswersEach, AnswersPosition, AnswersText, most_plies, refused_words};
 ghost use Rattle.game_reports.specs.Readings.{OnlyReads};
 ghost use Rattle.http_answer.specs.Files.{files_of};
-ghost use Rattle.json_lines.specs.declared.api_told.ApiLine.{ApiLine};
 ghost use Rattle.table_folder.specs.Settled.{IsRefusedAt, IsRefusedFor, IsWithMoves};
 
 use crate::asking::{Topic, topic_of};

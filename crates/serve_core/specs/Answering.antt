@@ -3,11 +3,12 @@
 use Rattle.std.specs.Prelude.{◌≡◌, ℕ, List, Option}
 use Rattle.std.specs.Borrow.{GName}
 use Rattle.http.specs.declared.request.Request.{Request}
-use Rattle.http_answer.specs.Games.{GamesByClock, Routes}
+use Rattle.http_answer.specs.Games.{AreOfOne, GamesByClock, Routes}
 use Rattle.http_server.specs.declared.response.Response.{Response}
 use Rattle.table_folder.specs.Folders.{FolderOn}
 use Rattle.table_folder.specs.declared.files.SystemFiles.{SystemFiles}
 use Rattle.timeline.specs.Outsides.{Outside}
+use Rattle.serve_core.specs.Serve.{OnlyReadsSince}
 
 -- what stays: which timeline it has, over which system, and the line that went out before
 pub record Ground (G : Type 0) : Type 0 where
@@ -25,3 +26,9 @@ pub record AnsweringView (G C : Type 0) : Type 0 where
 pub record AnswersOne {G C T P F K S L : Type 0} (outside : G → Outside T P F K S L) (says : C → Option ℕ → Type 0) (old : AnsweringView G C) (request : Request (List ℕ)) (r : Response) (new : AnsweringView G C) : Type 0 where
   pub routes : Routes outside says old.tables old.games request r new.tables new.games
   pub ground : new.ground ≡ old.ground
+
+-- all is on one system, and since the line went out only readings and notes came
+pub record IsGrounded {G C T P F K S L : Type 0} (outside : G → Outside T P F K S L) (system : G) (tables : FolderOn (SystemFiles G)) (games : Option (GamesByClock G C)) (t : T) (ready : List ℕ) : Type 0 where
+  pub one : AreOfOne tables games
+  pub same : system ≡ tables.disk.system.now
+  pub since : OnlyReadsSince (outside system) t ready

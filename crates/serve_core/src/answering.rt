@@ -47,16 +47,13 @@ pub struct Answering<'r, 's, 't, S: System, C: Times> {
 }
 
 impl<'r, 's, 't, S: System, C: Times> Model for Answering<'r, 's, 't, S, C> {
-    ghost use Rattle.std.specs.Prelude.{◌≡◌};
-    ghost use Rattle.http_answer.specs.Games.{AreOfOne};
-    ghost use Rattle.serve_core.specs.Answering.{AnsweringView};
-    ghost use Rattle.serve_core.specs.Serve.{OnlyReadsSince};
+    ghost use Rattle.serve_core.specs.Answering.{AnsweringView, IsGrounded};
 
     ghost Value = { AnsweringView S C };
 
     ghost view = { λ a. record { ground = record { timeline = a.timeline.ghost_name; system = a.system.now; ready = a.asked.ready.now }; tables = a.router.answerer; games = a.router.games } };
 
-    ghost invariant = { λ a. record { one : AreOfOne a.router.answerer a.router.games; same : a.system.now ≡ a.router.answerer.disk.system.now; since : OnlyReadsSince (S.outside a.system.now) a.timeline.now a.asked.ready.now } };
+    ghost invariant = { λ a. IsGrounded S.outside a.system.now a.router.answerer a.router.games a.timeline.now a.asked.ready.now };
 }
 
 /// Notes the line of a request and its response, if requests are logged. One for which memory is refused is left out.
