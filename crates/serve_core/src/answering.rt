@@ -149,8 +149,8 @@ pub fn answer_requests<'r, C: Clock, L: Listener + Drop, S: System, T: Times>(
     let Answering {
         asked: _,
         system: _,
-        timeline: _,
-        router: _,
+        timeline: _timeline,
+        router: _router,
         answered: _,
     } = service;
     server.close();

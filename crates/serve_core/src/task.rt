@@ -52,11 +52,14 @@ fn sound_manifest<T: Times, S: System>(
 ) -> Result<Manifest, Refusal>
     ensures { AddsSome (S.outside by.now.system.now) timeline.old timeline.new (ReadsSound (S.outside by.now.system.now).disk task.now result) }
 {
-    match manifest_at(by.alloc, by.system, timeline, task.manifest) {
-        Ok(Manifest::BadLine(line)) => Err(Refusal::Manifest(line)),
-        Ok(manifest) => Ok(manifest),
-        Err(fault) => Err(Refusal::unread(fault)),
+    let manifest = match manifest_at(by.alloc, by.system, timeline, task.manifest) {
+        Ok(manifest) => manifest,
+        Err(fault) => return Err(Refusal::unread(fault)),
+    };
+    if let Manifest::BadLine(line) = &manifest {
+        return Err(Refusal::Manifest(*line));
     }
+    Ok(manifest)
 }
 
 /// The folders of games that the words name, if they do.
