@@ -57,7 +57,6 @@ fn lacked_by(refusal: Refusal) -> Result<LackedFolder, AllocError>
 
 impl<'r, S: System> GameFolders<'r, S> {
     /// A report on the games, as it is read now.
-    #[tactic(auto, using(crate::proofs::OpenReadLaws::report_at))]
     fn report(
         &self,
         alloc: Global,
@@ -78,7 +77,6 @@ impl<'r, S: System> GameFolders<'r, S> {
     }
 
     /// What is found of the game with a stamp.
-    #[tactic(auto, using(crate::proofs::OpenReadLaws::game_at))]
     fn game(
         &self,
         alloc: Global,
