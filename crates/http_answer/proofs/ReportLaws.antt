@@ -30,10 +30,10 @@ IsThere None = ⊥
 IsThere (Some a) = Unit {0}
 
 ok_not_err : {A : Type 0} (a : A) (r : Refusal) → ◌≡◌ {A = Option (Result A Refusal)} (Some (Ok a)) (Some (Err r)) → ⊥
-ok_not_err {A} a r e = subst (IsOk {A}) e tt
+ok_not_err {A} a r e = subst (IsOk {A = A}) e tt
 
 none_not_some : {A : Type 0} (a : A) → ◌≡◌ {A = Option A} None (Some a) → ⊥
-none_not_some {A} a e = subst (IsThere {A}) (sym e) tt
+none_not_some {A} a e = subst (IsThere {A = A}) (sym e) tt
 
 err_same : {A : Type 0} (r s : Refusal) → ◌≡◌ {A = Option (Result A Refusal)} (Some (Err r)) (Some (Err s)) → r ≡ s
 err_same r s e = cc

@@ -109,7 +109,6 @@ impl<'r, 's, S: System> Answerer<'r, 's, S> {
     }
 
     /// What tables say of a position and of its legal moves, or the refusal of the file of one that is needed.
-    #[tactic(auto, using(crate::proofs::OpenReadLaws::opens_reads))]
     fn line_of(
         &mut self,
         timeline: &mut S::Timeline,
@@ -129,7 +128,6 @@ impl<'r, 's, S: System> Answerer<'r, 's, S> {
     }
 
     /// What tables say of a position, or the refusal of the file of one that it needs.
-    #[tactic(auto, using(crate::proofs::OpenReadLaws::opens_reads))]
     pub(crate) fn line_alone(
         &mut self,
         timeline: &mut S::Timeline,
@@ -162,7 +160,6 @@ impl<'r, 's, S: System> Answerer<'r, 's, S> {
     }
 
     /// What tables say of a position, or the refusal of the file of one that it needs.
-    #[tactic(auto, using(crate::proofs::OpenReadLaws::opens_reads))]
     fn position_by(
         &mut self,
         timeline: &mut S::Timeline,
@@ -184,7 +181,6 @@ impl<'r, 's, S: System> Answerer<'r, 's, S> {
     }
 
     /// The best move of a position, or the refusal of the file of a table that is needed.
-    #[tactic(auto, using(crate::proofs::OpenReadLaws::opens_reads))]
     fn best_move(
         &mut self,
         timeline: &mut S::Timeline,

@@ -45,7 +45,7 @@ IsWell (Ok a) = Unit {0}
 IsWell (Err e) = ⊥
 
 not_err : {A E : Type 0} (x : A) (f : E) → ◌≡◌ {A = Result A E} (Ok x) (Err f) → ⊥
-not_err {A} {E} x f e = subst (IsWell {A} {E}) e tt
+not_err {A} {E} x f e = subst (IsWell {A = A} {E = E}) e tt
 
 lines_told : (text : List ℕ) (m : Manifest) (events : List Event) (r : Result Manifest ReadFault) → ReadsLines text r events → r ≡ Ok m → (t : ToldManifest) × TellsManifest text t × (told_by m ≡ Some t)
 lines_told text m events r (LinesAre manifest told tells is gives) e = (told, tells, ap told_by (ok_same m manifest (sym e ∙ gives.0)) ∙ is)

@@ -22,5 +22,5 @@ returns-clause-added g c = at_end _ _ _ _ _ _ _ _ c.loop-m.invariant.so_far (not
 pub returns-in-None-clause-made : goal.returns-in-None-clause-made
 returns-in-None-clause-made g c = reads_then g.S.System.outside _ _ _ _ _ c.loop-m.invariant.same c.loop-m.invariant.made c.add_next.ensures.made
 
-pub returns-in_err-add_next-clause-made : goal.returns-in_err-add_next-clause-made
-returns-in_err-add_next-clause-made g c = reads_then g.S.System.outside _ _ _ _ _ c.loop-m.invariant.same c.loop-m.invariant.made c.add_next.ensures.made
+pub returns-in_err-after-clause-made : goal.returns-in_err-after-clause-made
+returns-in_err-after-clause-made g c = reads_then g.S.System.outside _ _ _ _ _ c.loop-m.invariant.same c.loop-m.invariant.made c.add_next.ensures.made

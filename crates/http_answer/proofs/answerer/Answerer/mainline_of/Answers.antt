@@ -20,5 +20,5 @@ returns-in-Ok-2-clause-made g c = reads_then g.S.System.outside _ _ _ _ _ c.posi
 pub returns-in-Err-2-clause-made : goal.returns-in-Err-2-clause-made
 returns-in-Err-2-clause-made g c = reads_then g.S.System.outside _ _ _ _ _ c.position_by.ensures.same c.position_by.ensures.made c.line_of_play.ensures.made
 
-pub returns-in_err-line_of_play-clause-made : goal.returns-in_err-line_of_play-clause-made
-returns-in_err-line_of_play-clause-made g c = reads_then g.S.System.outside _ _ _ _ _ c.position_by.ensures.same c.position_by.ensures.made c.line_of_play.ensures.made
+pub returns-in_err-plies-clause-made : goal.returns-in_err-plies-clause-made
+returns-in_err-plies-clause-made g c = reads_then g.S.System.outside _ _ _ _ _ c.position_by.ensures.same c.position_by.ensures.made c.line_of_play.ensures.made

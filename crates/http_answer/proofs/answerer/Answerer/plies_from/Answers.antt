@@ -49,5 +49,5 @@ returns-in-Ok-None-clause-made g c = reads_then g.S.System.outside _ _ _ _ _ c.l
 pub returns-in-Err-clause-made : goal.returns-in-Err-clause-made
 returns-in-Err-clause-made g c = reads_then g.S.System.outside _ _ _ _ _ c.loop.invariant.same c.loop.invariant.made c.play_on.ensures.made
 
-pub returns-in_err-play_on-clause-made : goal.returns-in_err-play_on-clause-made
-returns-in_err-play_on-clause-made g c = reads_then g.S.System.outside _ _ _ _ _ c.loop.invariant.same c.loop.invariant.made c.play_on.ensures.made
+pub returns-in_err-next-clause-made : goal.returns-in_err-next-clause-made
+returns-in_err-next-clause-made g c = reads_then g.S.System.outside _ _ _ _ _ c.loop.invariant.same c.loop.invariant.made c.play_on.ensures.made
