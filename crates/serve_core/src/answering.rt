@@ -132,9 +132,9 @@ pub fn answer_requests<'r, C: Clock, L: Listener + Drop, S: System, T: Times>(
     timeline: &mut S::Timeline,
     asked: Asked<'r>,
 ) -> io::Result<()>
-    requires one { AreOfOne router.entry.answerer router.entry.games }
-    requires same { system.now ≡ router.entry.answerer.disk.system.now }
-    requires ready { OnlyReadsSince (S.outside system.now) timeline.old asked.entry.ready.now }
+    requires one { AreOfOne router.answerer router.games }
+    requires same { system.now ≡ router.answerer.disk.system.now }
+    requires ready { OnlyReadsSince (S.outside system.now) timeline.old asked.ready.now }
     ensures replied { RoutesOver S.outside T.says router.entry.answerer router.entry.games L.streams L.Reader.remaining L.Writer.contents server.old server.new }
     ensures since { OnlyReadsSince (S.outside system.now) timeline.new asked.entry.ready.now }
 {

@@ -139,8 +139,8 @@ fn serve_at<'r, C: Clock, L: Listener + Drop, T: Times, S: System>(
     task: &Serve<'_>,
     bound: &mut Bound<'_, C, L>,
 ) -> Result<u8, WriteFault>
-    requires one { AreOfOne router.entry.answerer router.entry.games }
-    requires same { by.now.system.now ≡ router.entry.answerer.disk.system.now }
+    requires one { AreOfOne router.answerer router.games }
+    requires same { by.now.system.now ≡ router.answerer.disk.system.now }
     ensures made { ServesFolder (S.outside by.now.system.now) None timeline.old timeline.new result }
     ensures cause { OnErr result (OutputFails (S.outside by.now.system.now)) }
     ensures replied { MayRoute S.outside T.says L.streams L.Reader.remaining L.Writer.contents router.entry.answerer router.entry.games bound.old bound.new result }
@@ -173,7 +173,7 @@ fn serve_folder<'r, C: Clock, L: Listener + Drop, T: Times, S: System>(
     task: &Serve<'r>,
     bound: &mut Bound<'_, C, L>,
 ) -> Result<u8, WriteFault>
-    requires { folder.entry.disk.system.now ≡ by.now.system.now }
+    requires { folder.disk.system.now ≡ by.now.system.now }
     ensures made { ServesFolder (S.outside by.now.system.now) None timeline.old timeline.new result }
     ensures cause { OnErr result (OutputFails (S.outside by.now.system.now)) }
     ensures replied { MayServe S.outside T.says L.streams L.Reader.remaining L.Writer.contents by.now task.now folder.entry bound.old bound.new result }
@@ -196,7 +196,7 @@ fn serve_folder_if<'r, C: Clock, L: Listener + Drop, T: Times, S: System>(
     task: &Serve<'r>,
     bound: &mut Result<Bound<'_, C, L>, Unbound>,
 ) -> Result<u8, WriteFault>
-    requires { folder.entry.disk.system.now ≡ by.now.system.now }
+    requires { folder.disk.system.now ≡ by.now.system.now }
     ensures made { ServesFolder (S.outside by.now.system.now) (unbound_in bound.old) timeline.old timeline.new result }
     ensures cause { OnErr result (OutputFails (S.outside by.now.system.now)) }
     ensures replied { IfBound S.outside T.says L.streams L.Reader.remaining L.Writer.contents by.now task.now folder.entry bound.old bound.new result }
