@@ -1,8 +1,8 @@
 //! The adjudicator's program: it passes the system to `adjudicate_core`, and ends with the status.
 //!
-//! `main` first sees to it that the descriptors 0 to 2 are open. Then it makes the system with its timeline, and what `serve`, which isn't over
-//! it yet, stands on: disk, host, pages and output. It calls `run_program` with the words that the program was called with, and ends with its
-//! status. Memory that is refused before that is `refused memory`.
+//! `main` first sees to it that the descriptors 0 to 2 are open. Then it makes the system with its timeline, and the sockets of HTTP, which stand
+//! beside it. It calls `run_program` with the words that the program was called with, and ends with its status. Memory that is refused before
+//! that is `refused memory`.
 //!
 //! It is proved safe, and nothing more is proved of it here: what is read, printed and has gone out is the contract of `run_program`. It is
 //! `main` alone, since each check of a program links all libraries. Its test is the gate's one run of the
@@ -10,7 +10,7 @@
 //! judge FEN` here, which leaves it in `out/adjudicate`. Unproved, to try something: `rt try -- judge FEN`.
 #![tactic(auto)]
 
-use adjudicate_core::{Beside, refuse_memory, run_program};
+use adjudicate_core::{refuse_memory, run_program};
 use command_line::WordsFault;
 use game_store::MachineStores;
 use serve_core::SystemPages;
@@ -61,27 +61,21 @@ fn words_of(rt: &HostRuntime) -> Result<Vec<String>, WordsFault> {
     }
 }
 
-/// Runs the program on its words, and returns its status. Its output and standard error are buffered, those of the timeline and those beside
-/// it, of which one is written. The error comes where memory for these buffers is refused.
+/// Runs the program on its words, and returns its status. Its output and standard error are buffered. The error comes where memory for these
+/// buffers is refused.
 fn status_of(rt: &HostRuntime) -> Result<u8, AllocError> {
     let alloc = rt.alloc();
     let stores = MachineStores::new(rt);
     let (host, history) = SystemHost::new(rt, rt.stderr(), &stores);
-    let (same_host, _) = SystemHost::new(rt, rt.stderr(), &stores);
     let machine = Machine::new(SystemDisk::new(rt, rt.stderr()), SystemInput::new(rt), host);
     let mut timeline = MachineTimeline::new(
         history,
         BufferedOutput::new(alloc, io::writer(rt))?,
         BufferedOutput::new(alloc, rt.stderr())?,
     );
-    let mut beside = Beside {
-        disk: &SystemDisk::new(rt, rt.stderr()),
-        host: &same_host,
-        pages: &SystemPages::new(rt),
-        out: BufferedOutput::new(alloc, io::writer(rt))?,
-    };
     let words = words_of(rt);
-    Ok(run_program(alloc, &words, &machine, &mut timeline, &mut beside))
+    let pages = SystemPages::new(rt);
+    Ok(run_program(alloc, &words, &machine, &mut timeline, &pages))
 }
 
 /// Runs the program, and ends with its status, 1 where the output can't be written. Nothing that it opens gets a descriptor of standard

@@ -1,3 +1,3 @@
 pub mod Misusing
-pub mod Beside
+pub mod Serving
 pub mod Program

@@ -2,49 +2,48 @@
 
 ghost use Rattle.std.specs.Prelude.{◌≡◌, IfOk, drop, map, string_bytes};
 ghost use Rattle.line_teller.specs.ToldLines.{refused_memory};
-ghost use Rattle.adjudicate_core.specs.Beside.{beside_seen};
-ghost use Rattle.adjudicate_core.specs.Program.{AnswersEither, Runs, RunsWords, called_by, texts};
+ghost use Rattle.adjudicate_core.specs.Program.{AnswersTask, Runs, RunsWords, called_by, texts};
 ghost use Rattle.move_msg.specs.TextLines.{ended};
 ghost use Rattle.std.specs.Io.KnownBytes.{Appends};
 
-use crate::beside::{Beside, serve_beside};
 use crate::misusing::{refuse_misuse, refuse_task};
+use crate::serving::serve_and_end;
 use answer_commands::{AnswerTask, answer};
 use command_line::{Misuse, Task, Usage, WordsFault, parse};
 use serve_core::Pages;
 use std::alloc::{AllocError, Global};
 use std::io::Write;
-use system_io::{Disk, Host, Output, WriteFault};
+use system_io::WriteFault;
 use timeline::System;
 
-/// Answers a task, over the timeline or beside it, and returns the program's status.
-fn answer_either<S: System, D: Disk, H: Host, G: Pages, W: Output + Drop>(
+/// Answers a task, and returns the program's status.
+fn answer_task<S: System, G: Pages>(
     alloc: Global,
     task: Task<'_>,
     system: &S,
     timeline: &mut S::Timeline,
-    beside: &mut Beside<'_, D, H, G, W>,
+    pages: &G,
 ) -> u8
-    ensures { AnswersEither (S.outside system.now) timeline.old timeline.new (beside_seen D.facts W.contents W.facts beside.old beside.new) task.entry result }
+    ensures { AnswersTask (S.outside system.now) timeline.old timeline.new task.entry result }
 {
     match AnswerTask::of(task) {
         Ok(task) => answer(alloc, &task, system, timeline),
-        Err(serve) => serve_beside(alloc, &serve, beside),
+        Err(serve) => serve_and_end(alloc, &serve, system, timeline, pages),
     }
 }
 
 /// Runs the program on the words after its own name, and returns its status.
-fn run<S: System, D: Disk, H: Host, G: Pages, W: Output + Drop>(
+fn run<S: System, G: Pages>(
     alloc: Global,
     words: &[&str],
     system: &S,
     timeline: &mut S::Timeline,
-    beside: &mut Beside<'_, D, H, G, W>,
+    pages: &G,
 ) -> u8
-    ensures { RunsWords (S.outside system.now) timeline.old timeline.new (beside_seen D.facts W.contents W.facts beside.old beside.new) (texts words.now) result }
+    ensures { RunsWords (S.outside system.now) timeline.old timeline.new (texts words.now) result }
 {
     match parse(alloc, words) {
-        Ok(task) => answer_either(alloc, task, system, timeline, beside),
+        Ok(task) => answer_task(alloc, task, system, timeline, pages),
         Err(Usage::OutOfMemory) => refuse_task(system, timeline),
         Err(Usage::Misuse(misuse)) => refuse_misuse(alloc, &misuse, system, timeline),
     }
@@ -85,22 +84,23 @@ pub fn refuse_memory<W: Write>(out: &mut W) -> Result<u8, WriteFault>
 /// output can't be written, which is noted, 2 misuse. A word that is not UTF-8 is a misuse. Where memory was refused for the words, the
 /// line is `refused memory`.
 ///
-/// All that it does outside is on the timeline, in order, as `answer` of answer_commands has it of a task; but `serve` is answered beside it.
+/// All that it does outside is on the timeline, in order, as `answer` of answer_commands has it of a task, and `serve` of serve_core of its
+/// own; but what passes over sockets of HTTP isn't, which come of `pages`.
 ///
 /// For a misuse one line on standard error says what is wrong; then come a near word, where there is one, and the line that names help. A
 /// request for help gets the list of commands, or the use of the command that it names. A failure of standard error changes nothing.
-pub fn run_program<S: System, D: Disk, H: Host, G: Pages, W: Output + Drop>(
+pub fn run_program<S: System, G: Pages>(
     alloc: Global,
     called: &Result<Vec<String>, WordsFault>,
     system: &S,
     timeline: &mut S::Timeline,
-    beside: &mut Beside<'_, D, H, G, W>,
+    pages: &G,
 ) -> u8
-    ensures { Runs (S.outside system.now) timeline.old timeline.new (beside_seen D.facts W.contents W.facts beside.old beside.new) (called_by called.now) result }
+    ensures { Runs (S.outside system.now) timeline.old timeline.new (called_by called.now) result }
 {
     match called {
         Ok(words) => match tail_of(alloc, words) {
-            Ok(tail) => run(alloc, &tail, system, timeline, beside),
+            Ok(tail) => run(alloc, &tail, system, timeline, pages),
             Err(_) => refuse_task(system, timeline),
         },
         Err(WordsFault::NoText(word)) => {

@@ -6,3 +6,5 @@ pub mod EachLaws
 pub mod TellLaws
 pub mod ReportLaws
 pub mod AuditLaws
+pub mod ReadingLaws
+pub mod AskedLaws

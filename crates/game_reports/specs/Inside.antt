@@ -3,3 +3,4 @@ pub mod StoreReading
 pub mod Opening
 pub mod Looking
 pub mod Reporting
+pub mod Asking

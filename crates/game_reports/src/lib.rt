@@ -7,11 +7,12 @@
 //!
 //! Inside: `store_reading` (a folder and the records of its store: `open_folder`), `folders` (what is known of one or two), `looking` (one
 //! game: its file and its record in each), `telling` (games in turn, a line each, and sums), `report` (all games as metrics or as a JSON
-//! object), `printing` (one text); `game_record`, `status` and `audit`, the commands. What a line, a sum or a report says is made by
+//! object), `printing` (one text), `asked` (all games for a report, or one, for who serves them); `game_record`, `status` and `audit`, the commands. What a line, a sum or a report says is made by
 //! `game_status`, as are what is found by the bytes of a file and what is judged; here it is read and written.
 //!
 //! Definitions, in reading order: `Writing` (`DoesEach`), `StoreReads` (`Opens`), `GameRecords` (`PrintsGameRecord`), `Folders` (`IsKnownBy`,
-//! `ByFolders`), `GameLooks` (`ReadsSide`, `ReadsLook`), `GameLines` (`TellsGames`), `Statuses` (`ReportsStatus`), `Audits` (`AuditsGames`).
+//! `ByFolders`), `GameLooks` (`ReadsSide`, `ReadsLook`), `GameLines` (`TellsGames`), `Statuses` (`ReportsStatus`), `Audits` (`AuditsGames`);
+//! `Readings` (`OnlyReads`), `Asked` (`ReadsReport`, `ReadsGame`).
 //! `Performs` and `IsCutIn` stand in `Printing` of `answer_parts`, the lines, sums and forms in `game_status`.
 //!
 //! - CLAIM: `open_folder`: the folder is listed once. Where it lists a whole store, the log is read, the database, the log again, and the log
@@ -26,8 +27,11 @@
 //!   a line of the audit for each game.
 //! - CLAIM: `print_game_record`, `report_status`, `print_audit`, clauses `made`, `cause`: where memory is refused, `refused memory` follows the
 //!   lines before, and nothing more; a folder that isn't opened is refused alone. An error comes only where a write might be refused.
+//! - CLAIM: `read_report`, `read_game`: the folders are opened as by `report_status`, and then each game is read, or the one game if a folder lists
+//!   it, first in the first folder alone and then in both. Nothing is written (`proofs/ReadingLaws`: such events are readings and notes alone).
 #![tactic(auto)]
 
+mod asked;
 mod audit;
 mod folders;
 mod game_record;
@@ -38,6 +42,7 @@ mod status;
 mod store_reading;
 mod telling;
 
+pub use asked::{GameFound, read_game, read_report};
 pub use audit::print_audit;
 pub use game_record::print_game_record;
 pub use status::report_status;

@@ -3,6 +3,7 @@
 ghost use Rattle.std.specs.Prelude.{◌≡◌, option_map, IfOk};
 ghost use Rattle.arbiter_server.specs.GameFolders.{game_path, kept_path, most_game_bytes};
 ghost use Rattle.game_reports.specs.GameLooks.{ReadsEntry, ReadsSide, lack_of};
+ghost use Rattle.game_reports.specs.Inside.Asking.{LookAlone};
 ghost use Rattle.game_reports.specs.Inside.Looking.{LookBeside, LookIn, RecordIn, SeeksFile, found_lacking, found_or_none};
 ghost use Rattle.game_reports.specs.Inside.Opening.{known_folder};
 ghost use Rattle.game_status.specs.Entries.{most_kept};
@@ -179,6 +180,36 @@ fn look_lacking(lack: Lack) -> Result<Look, AllocError>
         Lack::AtFault(fault) => Ok(Look::AtFault(fault)),
         Lack::NoRoom => Err(AllocError),
     }
+}
+
+/// What is found of a game in the first folder alone. The error comes only where memory is refused.
+fn read_first<S: System>(
+    alloc: Global,
+    system: &S,
+    timeline: &mut S::Timeline,
+    folders: &GameFolders<'_>,
+    stamp: Stamp,
+) -> Result<Look, AllocError>
+    ensures { AddsSome (S.outside system.now) timeline.old timeline.new (LookAlone (S.outside system.now) folders.now stamp result) }
+{
+    match read_side(alloc, system, timeline, &folders.one, stamp) {
+        Ok(one) => Ok(Look::One(one)),
+        Err(lack) => look_lacking(lack),
+    }
+}
+
+/// What is found of a game in the first folder alone. The error comes only where memory is refused.
+pub(crate) fn look_at_first<S: System>(
+    alloc: Global,
+    system: &S,
+    timeline: &mut S::Timeline,
+    folders: &GameFolders<'_>,
+    stamp: Stamp,
+) -> Result<Look, AllocError>
+    ensures made { AddsSome (S.outside system.now) timeline.old timeline.new (LookAlone (S.outside system.now) folders.now stamp result) }
+    ensures named { IfOk result AreNamed }
+{
+    read_first(alloc, system, timeline, folders, stamp)
 }
 
 /// What is found of a game. The error comes only where memory is refused; what is read of the game ends there.

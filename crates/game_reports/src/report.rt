@@ -145,7 +145,7 @@ fn object_of<S: System>(
 }
 
 /// Reads the games of folders in turn, and returns the text on them in this form.
-fn text_of<S: System>(
+pub(crate) fn text_of<S: System>(
     alloc: Global,
     folders: &GameFolders<'_>,
     form: ReportForm,

@@ -2,8 +2,10 @@ pub mod AnswerLaws
 pub mod BestPlay
 pub mod Fields
 pub mod LineLaws
+pub mod OpenReadLaws
 pub mod PlyLaws
 pub mod Replied
 pub mod ReportLaws
 pub mod RouterLaws
 pub mod SeenLaws
+pub mod TableReadLaws

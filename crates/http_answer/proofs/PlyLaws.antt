@@ -13,7 +13,7 @@ use Rattle.json.specs.Written.{Written}
 use Rattle.system_io.specs.Disks.{DiskFacts}
 use Rattle.table_folder.specs.Folders.{Folder, FolderOn}
 use Rattle.json_lines.proofs.Whole.{shallow}
-use Rattle.game_status.specs.declared.one_game.GameFound.{GameFound}
+use Rattle.game_reports.specs.declared.asked.GameFound.{GameFound}
 use Rattle.game_status.specs.StatusObjects.{AddsMembers, AddsTokens, count_or_null, json_text, members_if, second_members}
 use Rattle.game_status.proofs.ObjectDepth.{first_flat, flat_count, flat_text, second_if_shallow}
 use Rattle.game_status.proofs.ObjectLaws.{both, no_tokens, reads_back, valued}

@@ -2,17 +2,17 @@
 use Rattle.std.proofs.Common.{◌≡◌, ℕ, List, [], ◌∷◌, Option, All, refl, subst}
 use Rattle.std.proofs.lemmas.List.Elements.{All-nil, All-cons}
 use Rattle.http_server.specs.Exchange.{Call, Chain}
-use Rattle.system_io.specs.Disks.{DiskFacts}
-use Rattle.system_io.specs.Records.{StorePlaces}
 use Rattle.table_folder.specs.Folders.{FolderOn}
+use Rattle.table_folder.specs.declared.files.SystemFiles.{SystemFiles}
+use Rattle.timeline.specs.Outsides.{Outside}
 use Rattle.http_answer.specs.Games.{GamesByClock, IsServedCall, Routes, places_of}
 
 -- every call of a chain is served by the folders at its start
-pub all_routed : {D H C S R : Type 0} (facts : D → DiskFacts) (stores : H → StorePlaces S) (says : C → Option ℕ → Type 0) (tables : R → FolderOn D) (games : R → Option (GamesByClock D H C)) (calls : List Call) (old new : R)
-    → Chain (λ was request response now. Routes facts stores says (tables was) (games was) request response (tables now) (games now)) old calls new
-    → All (IsServedCall facts stores says (tables old) (places_of (games old))) calls
-all_routed facts stores says tables games [] old new x = All-nil (IsServedCall facts stores says (tables old) (places_of (games old)))
-all_routed facts stores says tables games (c ∷ calls) old new x =
-    All-cons (IsServedCall facts stores says (tables old) (places_of (games old))) c calls (record { old = games old; new = games x.0; same = refl; served = x.1.served })
-    (subst (λ t. All (IsServedCall facts stores says t (places_of (games old))) calls) x.1.tables_stay
-    (subst (λ g. All (IsServedCall facts stores says (tables x.0) g) calls) x.1.games_stay (all_routed facts stores says tables games calls x.0 new x.2)))
+pub all_routed : {G C T P F K S L R : Type 0} (outside : G → Outside T P F K S L) (says : C → Option ℕ → Type 0) (tables : R → FolderOn (SystemFiles G)) (games : R → Option (GamesByClock G C)) (calls : List Call) (old new : R)
+    → Chain (λ was request response now. Routes outside says (tables was) (games was) request response (tables now) (games now)) old calls new
+    → All (IsServedCall outside says (tables old) (places_of (games old))) calls
+all_routed outside says tables games [] old new x = All-nil (IsServedCall outside says (tables old) (places_of (games old)))
+all_routed outside says tables games (c ∷ calls) old new x =
+    All-cons (IsServedCall outside says (tables old) (places_of (games old))) c calls (record { old = games old; new = games x.0; same = refl; served = x.1.served })
+    (subst (λ t. All (IsServedCall outside says t (places_of (games old))) calls) x.1.tables_stay
+    (subst (λ g. All (IsServedCall outside says (tables x.0) g) calls) x.1.games_stay (all_routed outside says tables games calls x.0 new x.2)))

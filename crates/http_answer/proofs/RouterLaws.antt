@@ -6,10 +6,11 @@ use Rattle.std.proofs.lemmas.Bool.{false≢true}
 use Rattle.http_server.specs.declared.response.Response.{Response}
 use Rattle.http_server.specs.Response.{IsResponse}
 use Rattle.system_io.specs.Disks.{DiskFacts}
-use Rattle.system_io.specs.Records.{StorePlaces}
 use Rattle.table_folder.specs.Folders.{Folder, FolderOn}
+use Rattle.table_folder.specs.declared.files.SystemFiles.{SystemFiles}
+use Rattle.timeline.specs.Outsides.{Outside}
 use Rattle.game_status.specs.declared.report.ReportForm.TheVariants.{Json as AsJson, Metrics as AsMetrics}
-use Rattle.game_status.specs.declared.one_game.GameFound.{GameFound}
+use Rattle.game_reports.specs.declared.asked.GameFound.{GameFound}
 use Rattle.http_answer.specs.Games.{AskedOfGames, AsksBelow, AsksOfGames, AsksOfThese, ForGames, ForMetrics, ForMore, ForWatch, Found, GamesOn, HasGame, IsFoundGame, fresh_json, is_games, is_watch}
 use Rattle.http_answer.specs.Games.{GamesByClock, IsByAction, MayAnswer}
 use Rattle.http_answer.specs.Games.AskedOfGames.{Games, Metrics, Game, NoStamp, Watch}
@@ -27,9 +28,9 @@ not_asked path games metrics watch lacks a (ForWatch e is) = false≢true (sym w
 not_asked path games metrics watch lacks a (ForMore x y z h) = lacks a h
 
 -- the object of a game
-pub game_found : {D H S : Type 0} (tables : DiskFacts) (folder : Folder) (facts : D → DiskFacts) (stores : H → StorePlaces S) (on : GamesOn D H) (stamp : List ℕ) (g : GameFound) (text : List ℕ) (r : Response) → IsFoundGame facts stores on stamp g
-    → IsGameText tables folder (is_some on.other) stamp g text → IsResponse 200 fresh_json text r → HasGame tables folder facts stores on stamp r
-game_found tables folder facts stores on stamp g text r found (ts, are, whole, back) has =
+pub game_found : {G T P F K S L : Type 0} (tables : DiskFacts) (folder : Folder) (outside : G → Outside T P F K S L) (on : GamesOn G) (stamp : List ℕ) (g : GameFound) (text : List ℕ) (r : Response) → IsFoundGame outside on stamp g
+    → IsGameText tables folder (is_some on.other) stamp g text → IsResponse 200 fresh_json text r → HasGame tables folder outside on stamp r
+game_found tables folder outside on stamp g text r found (ts, are, whole, back) has =
     Found text (record { found = g; is_found = found; plies = ts; are_plies = are; is_text = whole; reads_back = back }) has
 
 -- a path that asks for no games
@@ -43,18 +44,18 @@ ok_then (Err y) e p = absurd (false≢true e)
 
 -- ---- the folders of games stay
 
-module _ {D H C S : Type 0} (facts : D → DiskFacts) (stores : H → StorePlaces S) (says : C → Option ℕ → Type 0) (tables : FolderOn D) (was now : GamesByClock D H C) (r : Response) where
+module _ {G C T P F K S L : Type 0} (outside : G → Outside T P F K S L) (says : C → Option ℕ → Type 0) (tables : FolderOn (SystemFiles G)) (was now : GamesByClock G C) (r : Response) where
   same_on : now ≡ was → now.on ≡ was.on
-  same_on same = ap (λ (g : GamesByClock D H C). g.on) same
+  same_on same = ap (λ (g : GamesByClock G C). g.on) same
 
-  answered_stays : (a : AskedOfGames) → MayAnswer facts stores says tables a was now r → now.on ≡ was.on
+  answered_stays : (a : AskedOfGames) → MayAnswer outside says tables a was now r → now.on ≡ was.on
   answered_stays Games (report, is, has, (time, said, at)) = aged_stays time AsJson was now report at
   answered_stays Metrics (report, is, has, (time, said, at)) = aged_stays time AsMetrics was now report at
   answered_stays (Game stamp) (has, same) = same_on same
   answered_stays NoStamp (has, same) = same_on same
   answered_stays Watch (has, same) = same_on same
 
-  pub by_action_stays : (action : Action) (a : AskedOfGames) → IsByAction action (MayAnswer facts stores says tables a) was now r → now.on ≡ was.on
+  pub by_action_stays : (action : Action) (a : AskedOfGames) → IsByAction action (MayAnswer outside says tables a) was now r → now.on ≡ was.on
   by_action_stays Reads a h = answered_stays a h
   by_action_stays ListsMethods a (has, same) = same_on same
   by_action_stays IsRefused a (has, same) = same_on same
@@ -62,10 +63,10 @@ module _ {D H C S : Type 0} (facts : D → DiskFacts) (stores : H → StorePlace
 
 -- ---- a router stays
 
-module _ {D H C P F K R I : Type 0} (r : Router D H C P F K R I) where
-  abbrev pub routed : FolderOn D → Option (GamesByClock D H C) → Router D H C P F K R I
-  routed answerer games = record { alloc = r.alloc; answerer = answerer; games = games }
+module _ {G C T P F K S L : Type 0} (r : Router G C T P F K S L) where
+  abbrev pub routed : FolderOn (SystemFiles G) → Option (GamesByClock G C) → Router G C T P F K S L
+  routed answerer games = record { answerer = answerer; games = games }
 
-  pub router_same : (a : FolderOn D) (g now : GamesByClock D H C) → a ≡ r.answerer → now ≡ g → r.games ≡ Some g → routed a (Some now) ≡ r
+  pub router_same : (a : FolderOn (SystemFiles G)) (g now : GamesByClock G C) → a ≡ r.answerer → now ≡ g → r.games ≡ Some g → routed a (Some now) ≡ r
   router_same a g now tables same is =
-      ap (λ (x : FolderOn D). routed x (Some now)) tables ∙ ap (λ (x : GamesByClock D H C). routed r.answerer (Some x)) same ∙ ap (routed r.answerer) (sym is)
+      ap (λ (x : FolderOn (SystemFiles G)). routed x (Some now)) tables ∙ ap (λ (x : GamesByClock G C). routed r.answerer (Some x)) same ∙ ap (routed r.answerer) (sym is)

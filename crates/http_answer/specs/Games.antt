@@ -24,65 +24,71 @@ use Rattle.move_msg.specs.declared.record_bytes.Record.{Record as Records}
 use Rattle.move_msg.specs.Stamps.{IsStamp}
 use Rattle.san_text.specs.Written.{san_of}
 use Rattle.system_io.specs.Disks.{DiskFacts}
-use Rattle.system_io.specs.Records.{StorePlaces}
-use Rattle.game_status.specs.declared.one_game.GameFound.{GameFound}
+use Rattle.answer_parts.specs.Lines.{refusal_words}
+use Rattle.answer_parts.specs.declared.answers.refusals.Refusal.{Refusal}
+use Rattle.answer_parts.specs.declared.answers.refusals.Refusal.TheVariants as refusal
+use Rattle.game_reports.specs.Asked.{ReadsGame, ReadsReport}
+use Rattle.game_reports.specs.Folders.{OpensGames}
+use Rattle.game_reports.specs.declared.asked.GameFound.{GameFound}
 use Rattle.game_status.specs.declared.report.ReportForm.{ReportForm}
 use Rattle.game_status.specs.declared.report.ReportForm.TheVariants.{Json as AsJson, Metrics as AsMetrics}
 use Rattle.game_status.specs.declared.side.Side.{Side}
 use Rattle.game_status.specs.declared.status_lines.Look.{Look}
 use Rattle.game_status.specs.declared.status_lines.Look.TheVariants as look
-use Rattle.game_status.specs.declared.stored_disk.LackedFolder.{LackedFolder}
-use Rattle.game_status.specs.declared.stored_disk.LackedFolder.TheVariants as lacked
-use Rattle.game_status.specs.Listings.{CannotList}
-use Rattle.game_status.specs.OneGame.{IsGameFound, ListsNoGame}
-use Rattle.game_status.specs.Reports.{IsStatusReport, form_of}
 use Rattle.game_status.specs.StatusObjects.{count_or_null, first_members, json_text, members_if, second_members, text_or_null}
-use Rattle.game_status.specs.StoredDisks.{IsSoOverStore, IsSoOverStores, LacksFolder}
 use Rattle.table_folder.specs.declared.fault.FileRefusal.{FileRefusal}
+use Rattle.table_folder.specs.declared.files.SystemFiles.{SystemFiles}
 use Rattle.table_folder.specs.Folders.{Folder, FolderOn}
 use Rattle.table_folder.specs.Settled.{AnswersBy, IsAlone, IsRefusedAt}
+use Rattle.timeline.specs.Events.{Event}
+use Rattle.timeline.specs.Outsides.{Outside}
+use Rattle.http_answer.specs.Files.{files_of}
 use Rattle.http_answer.specs.Places.{Action, HasMethods, LacksMethod, RefusesMethod, action_of, an_hour, html_type, kept_for, methods_of, typed}
 use Rattle.http_answer.specs.Places.Action.{Reads, ListsMethods, IsRefused, IsUnknown}
 use Rattle.http_answer.specs.Places.Place.{FoldersOfGames}
 use Rattle.http_answer.specs.Replies.{IsReply, refused_words}
 use Rattle.http_answer.specs.declared.games.GameFolders.{GameFolders}
+use Rattle.http_answer.specs.declared.games.LackedFolder.{LackedFolder}
+use Rattle.http_answer.specs.declared.games.LackedFolder.TheVariants as lacked
 use Rattle.http_answer.specs.declared.watch.TheConstants.{WATCH}
 
 -- ---- folders of games
 
--- the disk, the host that reads stores, the folder of games, and a second one if it is named
-pub record GamesOn (D H : Type 0) : Type 0 where
-  pub disk : D
-  pub host : H
+-- the system where they are, the folder of games, and a second one if it is named
+pub record GamesOn (G : Type 0) : Type 0 where
+  pub system : G
   pub games : List ℕ
   pub other : Option (List ℕ)
 
-abbrev pub games_on : {D H : Type 0} → GameFolders D H → GamesOn D H
-games_on f = record { disk = f.disk.now; host = f.host.now; games = f.games.now; other = option_map (λ s. s.now) f.other }
+abbrev pub games_on : {G : Type 0} → GameFolders G → GamesOn G
+games_on f = record { system = f.system.now; games = f.games.now; other = option_map (λ s. s.now) f.other }
 
--- What is so by a look at the folders, with the records of their stores. What a disk and a store may give at one time or another is one
--- relation, so it may be a look now, or one of an earlier answer.
-abbrev pub IsSeen : {D H S : Type 0} → (D → DiskFacts) → (H → StorePlaces S) → GamesOn D H → (DiskFacts → Type 0) → Type 0
-IsSeen facts stores on Holds = IsSoOverStores (facts on.disk) (stores on.host) on.games on.other Holds
+-- What is so by a reading of the folders, whose events some are: a reading now, or one of an earlier answer. What files and stores may give
+-- at one time or another is one relation.
+abbrev pub IsSeen : {G T P F K S L A : Type 0} → (G → Outside T P F K S L) → GamesOn G
+    → (Outside T P F K S L → List ℕ → Option (List ℕ) → A → List Event → Type 0) → A → Type 0
+IsSeen outside on By result = (events : List Event) × By (outside on.system) on.games on.other result events
 
--- why there is nothing to see: the first folder can't be listed, or its store can't be read; so it is of the second one; or one can't be
--- listed when the games are
-pub data LacksGames {D H S : Type 0} (facts : D → DiskFacts) (stores : H → StorePlaces S) (on : GamesOn D H) (why : LackedFolder) : Type 0 where
-  OfFirst : LacksFolder (facts on.disk) (stores on.host) on.games why → LacksGames facts stores on why
-  OfOther : (other : List ℕ) → on.other ≡ Some other → IsSoOverStore (facts on.disk) (stores on.host) on.games (λ d. LacksFolder d (stores on.host) other why) → LacksGames facts stores on why
-  OfList : why ≡ lacked.Files → IsSeen facts stores on (λ d. CannotList d on.games on.other) → LacksGames facts stores on why
+-- what a refusal means: a folder can't be listed, or its store can't be read
+abbrev pub lacked_by : LackedFolder → Refusal
+lacked_by lacked.Files = refusal.Files
+lacked_by lacked.Store = refusal.Store
+
+-- why there is nothing to see: so the first folder is refused, or else the second one
+abbrev pub LacksGames : {G T P F K S L : Type 0} → (G → Outside T P F K S L) → GamesOn G → LackedFolder → Type 0
+LacksGames outside on why = (events : List Event) × OpensGames (outside on.system) on.games on.other (Err (refusal_words (lacked_by why))) events
 
 -- the text of a report, as `status` writes it in this form
-abbrev pub IsReportText : {D H S : Type 0} → (D → DiskFacts) → (H → StorePlaces S) → GamesOn D H → ReportForm → List ℕ → Type 0
-IsReportText facts stores on form text = IsSeen facts stores on (λ d. IsStatusReport (form_of form) d on.games on.other text true)
+abbrev pub IsReportText : {G T P F K S L : Type 0} → (G → Outside T P F K S L) → GamesOn G → ReportForm → List ℕ → Type 0
+IsReportText outside on form text = IsSeen outside on (λ o games other. ReadsReport o games other form) (Some (Ok text))
 
 -- a report, or why there is none
 abbrev pub Report : Type 0
 Report = Result (List ℕ) LackedFolder
 
-abbrev pub IsReport : {D H S : Type 0} → (D → DiskFacts) → (H → StorePlaces S) → GamesOn D H → ReportForm → Report → Type 0
-IsReport facts stores on form (Ok text) = IsReportText facts stores on form text
-IsReport facts stores on form (Err why) = LacksGames facts stores on why
+abbrev pub IsReport : {G T P F K S L : Type 0} → (G → Outside T P F K S L) → GamesOn G → ReportForm → Report → Type 0
+IsReport outside on form (Ok text) = IsReportText outside on form text
+IsReport outside on form (Err why) = LacksGames outside on why
 
 -- ---- the age of a report
 
@@ -107,47 +113,47 @@ kept_at None report = None
 kept_at (Some now) report = Some (record { report = report; since = now })
 
 -- folders of games, by a clock, with what is kept of reports in each form
-pub record GamesByClock (D H C : Type 0) : Type 0 where
-  pub on : GamesOn D H
+pub record GamesByClock (G C : Type 0) : Type 0 where
+  pub on : GamesOn G
   pub clock : C
   pub json : Option KeptReport
   pub metrics : Option KeptReport
 
 -- of which no report was read yet
-abbrev pub unread_games : {D H C : Type 0} → GamesOn D H → C → GamesByClock D H C
+abbrev pub unread_games : {G C : Type 0} → GamesOn G → C → GamesByClock G C
 unread_games on clock = record { on = on; clock = clock; json = None; metrics = None }
 
 -- what is kept in this form; and the same games with this kept in it
-abbrev pub kept_by : {D H C : Type 0} → ReportForm → GamesByClock D H C → Option KeptReport
+abbrev pub kept_by : {G C : Type 0} → ReportForm → GamesByClock G C → Option KeptReport
 kept_by AsJson g = g.json
 kept_by AsMetrics g = g.metrics
 
-abbrev pub with_kept : {D H C : Type 0} → ReportForm → Option KeptReport → GamesByClock D H C → GamesByClock D H C
+abbrev pub with_kept : {G C : Type 0} → ReportForm → Option KeptReport → GamesByClock G C → GamesByClock G C
 with_kept AsJson kept g = record { on = g.on; clock = g.clock; json = kept; metrics = g.metrics }
 with_kept AsMetrics kept g = record { on = g.on; clock = g.clock; json = g.json; metrics = kept }
 
 -- The report in this form at this time: the one that is kept, if that is less than a second old; and else one that is read, and kept with
 -- the time.
-pub data IsReportAt {D H C : Type 0} (now : Option ℕ) (form : ReportForm) (old new : GamesByClock D H C) (report : Report) : Type 0 where
+pub data IsReportAt {G C : Type 0} (now : Option ℕ) (form : ReportForm) (old new : GamesByClock G C) (report : Report) : Type 0 where
   Again : fresh_at now (kept_by form old) ≡ Some report → new ≡ old → IsReportAt now form old new report
   Anew : fresh_at now (kept_by form old) ≡ None → new ≡ with_kept form (kept_at now report) old → IsReportAt now form old new report
 
 -- it is so at a time that the clock says
-abbrev pub IsAged : {D H C : Type 0} → (C → Option ℕ → Type 0) → ReportForm → GamesByClock D H C → GamesByClock D H C → Report → Type 0
+abbrev pub IsAged : {G C : Type 0} → (C → Option ℕ → Type 0) → ReportForm → GamesByClock G C → GamesByClock G C → Report → Type 0
 IsAged says form old new report = (now : Option ℕ) × says old.clock now × IsReportAt now form old new report
 
 -- ---- one game
 
 -- what is found of the game with a stamp; and that the folders list no file of it
-abbrev pub IsFoundGame : {D H S : Type 0} → (D → DiskFacts) → (H → StorePlaces S) → GamesOn D H → List ℕ → GameFound → Type 0
-IsFoundGame facts stores on stamp g = IsSeen facts stores on (λ d. IsGameFound d on.games on.other stamp g.first g.both)
+abbrev pub IsFoundGame : {G T P F K S L : Type 0} → (G → Outside T P F K S L) → GamesOn G → List ℕ → GameFound → Type 0
+IsFoundGame outside on stamp g = IsSeen outside on (λ o games other. ReadsGame o games other stamp) (Some (Ok (Some g)))
 
-abbrev pub HasNoGame : {D H S : Type 0} → (D → DiskFacts) → (H → StorePlaces S) → GamesOn D H → List ℕ → Type 0
-HasNoGame facts stores on stamp = IsSeen facts stores on (λ d. ListsNoGame d on.games on.other stamp)
+abbrev pub HasNoGame : {G T P F K S L : Type 0} → (G → Outside T P F K S L) → GamesOn G → List ℕ → Type 0
+HasNoGame outside on stamp = IsSeen outside on (λ o games other. ReadsGame o games other stamp) (Some (Ok None))
 
-abbrev pub IsGameOrNone : {D H S : Type 0} → (D → DiskFacts) → (H → StorePlaces S) → GamesOn D H → List ℕ → Option GameFound → Type 0
-IsGameOrNone facts stores on stamp None = HasNoGame facts stores on stamp
-IsGameOrNone facts stores on stamp (Some g) = IsFoundGame facts stores on stamp g
+abbrev pub IsGameOrNone : {G T P F K S L : Type 0} → (G → Outside T P F K S L) → GamesOn G → List ℕ → Option GameFound → Type 0
+IsGameOrNone outside on stamp None = HasNoGame outside on stamp
+IsGameOrNone outside on stamp (Some g) = IsFoundGame outside on stamp g
 
 -- ---- the plies of a game
 
@@ -311,41 +317,41 @@ HasReportText (Ok text) kind r = IsResponse 200 (fresh_fields kind) text r
 HasReportText (Err why) kind r = IsResponse 500 fresh_json (lacked_text why) r
 
 -- the response with a report in this form, of which so is true
-abbrev pub HasReport : {D H S : Type 0} → (D → DiskFacts) → (H → StorePlaces S) → GamesOn D H → ReportForm → List ℕ → (Report → Type 0) → Response → Type 0
-HasReport facts stores on form kind Is r = (report : Report) × IsReport facts stores on form report × HasReportText report kind r × Is report
+abbrev pub HasReport : {G T P F K S L : Type 0} → (G → Outside T P F K S L) → GamesOn G → ReportForm → List ℕ → (Report → Type 0) → Response → Type 0
+HasReport outside on form kind Is r = (report : Report) × IsReport outside on form report × HasReportText report kind r × Is report
 
-abbrev pub AnswersLack : {D H S : Type 0} → (D → DiskFacts) → (H → StorePlaces S) → GamesOn D H → Response → Type 0
-AnswersLack facts stores on r = (why : LackedFolder) × LacksGames facts stores on why × IsResponse 500 fresh_json (lacked_text why) r
+abbrev pub AnswersLack : {G T P F K S L : Type 0} → (G → Outside T P F K S L) → GamesOn G → Response → Type 0
+AnswersLack outside on r = (why : LackedFolder) × LacksGames outside on why × IsResponse 500 fresh_json (lacked_text why) r
 
 -- the object of the game with a stamp, by tables of this folder; a parser reads the object back
-pub record HasWholeGame {D H S : Type 0} (tables : DiskFacts) (folder : Folder) (facts : D → DiskFacts) (stores : H → StorePlaces S) (on : GamesOn D H) (stamp : List ℕ) (text : List ℕ) : Type 0 where
+pub record HasWholeGame {G T P F K S L : Type 0} (tables : DiskFacts) (folder : Folder) (outside : G → Outside T P F K S L) (on : GamesOn G) (stamp : List ℕ) (text : List ℕ) : Type 0 where
   pub found : GameFound
-  pub is_found : IsFoundGame facts stores on stamp found
+  pub is_found : IsFoundGame outside on stamp found
   pub plies : List Ply
   pub are_plies : HasPlies tables folder found.first plies
   pub is_text : text ≡ json_text (whole_game_json (is_some on.other) stamp found plies)
   pub reads_back : document text ≡ Some (whole_game_json (is_some on.other) stamp found plies)
 
 -- the object of a game; or there is no such game; or something is lacking of a folder
-pub data HasGame {D H S : Type 0} (tables : DiskFacts) (folder : Folder) (facts : D → DiskFacts) (stores : H → StorePlaces S) (on : GamesOn D H) (stamp : List ℕ) (r : Response) : Type 0 where
-  Found : (text : List ℕ) → HasWholeGame tables folder facts stores on stamp text → IsResponse 200 fresh_json text r → HasGame tables folder facts stores on stamp r
-  Unknown : HasNoGame facts stores on stamp → IsResponse 404 fresh_json (codes "{\"error\":\"game not found\"}") r → HasGame tables folder facts stores on stamp r
-  Lacking : AnswersLack facts stores on r → HasGame tables folder facts stores on stamp r
+pub data HasGame {G T P F K S L : Type 0} (tables : DiskFacts) (folder : Folder) (outside : G → Outside T P F K S L) (on : GamesOn G) (stamp : List ℕ) (r : Response) : Type 0 where
+  Found : (text : List ℕ) → HasWholeGame tables folder outside on stamp text → IsResponse 200 fresh_json text r → HasGame tables folder outside on stamp r
+  Unknown : HasNoGame outside on stamp → IsResponse 404 fresh_json (codes "{\"error\":\"game not found\"}") r → HasGame tables folder outside on stamp r
+  Lacking : AnswersLack outside on r → HasGame tables folder outside on stamp r
 
 -- What is answered to what is asked for, by the tables of a folder and by folders of games, by a clock that says such times. What is kept
 -- of reports stays where none is asked for.
-abbrev pub AnswersOfGames : {D H C S : Type 0} → (D → DiskFacts) → (H → StorePlaces S) → (C → Option ℕ → Type 0) → FolderOn D
-    → GamesByClock D H C → GamesByClock D H C → AskedOfGames → Response → Type 0
-AnswersOfGames facts stores says tables old new Games r = HasReport facts stores old.on AsJson (codes "application/json") (IsAged says AsJson old new) r
-AnswersOfGames facts stores says tables old new Metrics r = HasReport facts stores old.on AsMetrics (codes "text/plain; version=0.0.4") (IsAged says AsMetrics old new) r
-AnswersOfGames facts stores says tables old new (Game stamp) r = HasGame (facts tables.disk) tables.folder facts stores old.on stamp r × (new ≡ old)
-AnswersOfGames facts stores says tables old new NoStamp r = IsResponse 400 fresh_json (codes "{\"error\":\"no stamp\"}") r × (new ≡ old)
-AnswersOfGames facts stores says tables old new Watch r = IsResponse 200 (html_type ∷ kept_for an_hour ∷ []) WATCH.now r × (new ≡ old)
+abbrev pub AnswersOfGames : {G C T P F K S L : Type 0} → (G → Outside T P F K S L) → (C → Option ℕ → Type 0) → FolderOn (SystemFiles G)
+    → GamesByClock G C → GamesByClock G C → AskedOfGames → Response → Type 0
+AnswersOfGames outside says tables old new Games r = HasReport outside old.on AsJson (codes "application/json") (IsAged says AsJson old new) r
+AnswersOfGames outside says tables old new Metrics r = HasReport outside old.on AsMetrics (codes "text/plain; version=0.0.4") (IsAged says AsMetrics old new) r
+AnswersOfGames outside says tables old new (Game stamp) r = HasGame (files_of outside tables.disk) tables.folder outside old.on stamp r × (new ≡ old)
+AnswersOfGames outside says tables old new NoStamp r = IsResponse 400 fresh_json (codes "{\"error\":\"no stamp\"}") r × (new ≡ old)
+AnswersOfGames outside says tables old new Watch r = IsResponse 200 (html_type ∷ kept_for an_hour ∷ []) WATCH.now r × (new ≡ old)
 
 -- the same, as a relation of what is kept before and after
-abbrev pub MayAnswer : {D H C S : Type 0} → (D → DiskFacts) → (H → StorePlaces S) → (C → Option ℕ → Type 0) → FolderOn D → AskedOfGames
-    → GamesByClock D H C → GamesByClock D H C → Response → Type 0
-MayAnswer facts stores says tables a old new r = AnswersOfGames facts stores says tables old new a r
+abbrev pub MayAnswer : {G C T P F K S L : Type 0} → (G → Outside T P F K S L) → (C → Option ℕ → Type 0) → FolderOn (SystemFiles G) → AskedOfGames
+    → GamesByClock G C → GamesByClock G C → Response → Type 0
+MayAnswer outside says tables a old new r = AnswersOfGames outside says tables old new a r
 
 -- it is answered so; or which methods there are, or that this one isn't among them, and all stays
 abbrev pub IsByAction : {G : Type 0} → Action → (G → G → Response → Type 0) → G → G → Response → Type 0
@@ -368,27 +374,32 @@ AsksOfThese None path a = ⊥
 AsksOfThese (Some games) path a = AsksOfGames path a
 
 -- the response to a request, by the tables of a folder and by folders of games, if they are named
-pub data IsServed {D H C S : Type 0} (facts : D → DiskFacts) (stores : H → StorePlaces S) (says : C → Option ℕ → Type 0) (tables : FolderOn D)
-    (old new : Option (GamesByClock D H C)) (request : Request (List ℕ)) (r : Response) : Type 0 where
-  OfTables : ((a : AskedOfGames) → AsksOfThese old (path_of request) a → ⊥) → IsReply facts tables request r → new ≡ old → IsServed facts stores says tables old new request r
-  OfGames : (was now : GamesByClock D H C) → old ≡ Some was → new ≡ Some now → (a : AskedOfGames) → AsksOfGames (path_of request) a
-      → IsByMethod (head_of request).method (MayAnswer facts stores says tables a) was now r → IsServed facts stores says tables old new request r
+pub data IsServed {G C T P F K S L : Type 0} (outside : G → Outside T P F K S L) (says : C → Option ℕ → Type 0) (tables : FolderOn (SystemFiles G))
+    (old new : Option (GamesByClock G C)) (request : Request (List ℕ)) (r : Response) : Type 0 where
+  OfTables : ((a : AskedOfGames) → AsksOfThese old (path_of request) a → ⊥) → IsReply (files_of outside) tables request r → new ≡ old → IsServed outside says tables old new request r
+  OfGames : (was now : GamesByClock G C) → old ≡ Some was → new ≡ Some now → (a : AskedOfGames) → AsksOfGames (path_of request) a
+      → IsByMethod (head_of request).method (MayAnswer outside says tables a) was now r → IsServed outside says tables old new request r
 
 -- the folders of games, if they are named
-abbrev pub places_of : {D H C : Type 0} → Option (GamesByClock D H C) → Option (GamesOn D H)
+abbrev pub places_of : {G C : Type 0} → Option (GamesByClock G C) → Option (GamesOn G)
 places_of games = option_map (λ g. g.on) games
 
 -- a call is served so by these folders, whatever is kept of reports before and after it
-pub record IsServedCall {D H C S : Type 0} (facts : D → DiskFacts) (stores : H → StorePlaces S) (says : C → Option ℕ → Type 0) (tables : FolderOn D)
-    (on : Option (GamesOn D H)) (c : Call) : Type 0 where
-  pub old : Option (GamesByClock D H C)
-  pub new : Option (GamesByClock D H C)
+pub record IsServedCall {G C T P F K S L : Type 0} (outside : G → Outside T P F K S L) (says : C → Option ℕ → Type 0) (tables : FolderOn (SystemFiles G))
+    (on : Option (GamesOn G)) (c : Call) : Type 0 where
+  pub old : Option (GamesByClock G C)
+  pub new : Option (GamesByClock G C)
   pub same : places_of old ≡ on
-  pub served : IsServed facts stores says tables old new c.0 c.1
+  pub served : IsServed outside says tables old new c.0 c.1
+
+-- the folders of games, if they are named, and that of the tables are on one system
+abbrev pub AreOfOne : {G C : Type 0} → FolderOn (SystemFiles G) → Option (GamesByClock G C) → Type 0
+AreOfOne tables None = Unit {0}
+AreOfOne tables (Some games) = games.on.system ≡ tables.disk.system.now
 
 -- what a router does, by its folders, which stay the same
-pub record Routes {D H C S : Type 0} (facts : D → DiskFacts) (stores : H → StorePlaces S) (says : C → Option ℕ → Type 0) (tables : FolderOn D)
-    (old : Option (GamesByClock D H C)) (request : Request (List ℕ)) (r : Response) (after : FolderOn D) (new : Option (GamesByClock D H C)) : Type 0 where
-  pub served : IsServed facts stores says tables old new request r
+pub record Routes {G C T P F K S L : Type 0} (outside : G → Outside T P F K S L) (says : C → Option ℕ → Type 0) (tables : FolderOn (SystemFiles G))
+    (old : Option (GamesByClock G C)) (request : Request (List ℕ)) (r : Response) (after : FolderOn (SystemFiles G)) (new : Option (GamesByClock G C)) : Type 0 where
+  pub served : IsServed outside says tables old new request r
   pub tables_stay : after ≡ tables
   pub games_stay : places_of new ≡ places_of old

@@ -17,12 +17,11 @@ use Rattle.json.specs.Json.{Members, array, document, member, string}
 use Rattle.json.specs.Token.{Token}
 use Rattle.json.specs.Tree.{json_tokens}
 use Rattle.json.specs.Written.{Written}
-use Rattle.game_status.specs.declared.one_game.GameFound.{GameFound}
+use Rattle.answer_parts.specs.declared.answers.refusals.Refusal.{Refusal}
+use Rattle.game_reports.specs.declared.asked.GameFound.{GameFound}
 use Rattle.game_status.specs.declared.report.ReportForm.{ReportForm}
 use Rattle.game_status.specs.declared.report.ReportForm.TheVariants.{Json as AsJson, Metrics as AsMetrics}
-use Rattle.game_status.specs.declared.stored_disk.LackedFolder.{LackedFolder}
 use Rattle.game_status.specs.StatusObjects.{AddsMembers, AddsTokens, json_text, text_or_null}
-use Rattle.system_io.specs.Records.{StorePlaces}
 use Rattle.json_lines.specs.declared.told.JsonLine.{JsonLine}
 use Rattle.json_lines.specs.Objects.{line_json}
 use Rattle.move_msg.specs.TextLines.{ended}
@@ -35,18 +34,17 @@ use Rattle.http_answer.specs.declared.asking.Verb.TheVariants as verb
 use Rattle.http_answer.specs.declared.asking.Topic.{Topic}
 use Rattle.http_answer.specs.declared.asking.Topic.TheVariants as kind
 use Rattle.http_answer.specs.declared.games.Kept.{Kept}
+use Rattle.http_answer.specs.declared.games.LackedFolder.{LackedFolder}
 use Rattle.http_answer.specs.declared.router.GameTopic.{GameTopic}
 use Rattle.http_answer.specs.declared.router.GameTopic.TheVariants as topic
-use Rattle.game_status.specs.declared.stored_disk.LackedFolder.TheVariants as lacked
-use Rattle.game_status.specs.Listings.{CannotList}
-use Rattle.game_status.specs.OneGame.{IsGameFound, ListsNoGame}
-use Rattle.http_answer.specs.Games.{AnswersAlone, AskedOfGames, GamesOn, GoesOn, HasPlies, IsNext, IsReport, IsSeen, IsStart, KeptReport, Ply, Report, fresh_json, plies_items, ply_json, whole_game_json}
+use Rattle.timeline.specs.Outsides.{Outside}
+use Rattle.http_answer.specs.Games.{AnswersAlone, AskedOfGames, GamesOn, GoesOn, HasPlies, IsNext, IsReport, IsStart, KeptReport, Ply, Report, fresh_json, lacked_by, plies_items, ply_json, whole_game_json}
 use Rattle.http_answer.specs.Games.AskedOfGames.{Games, Metrics, Game, NoStamp, Watch}
 use Rattle.http_answer.specs.Queries.{asked_lines, position_text}
 use Rattle.http_answer.specs.Places.{Action, Place as PlaceHere}
 use Rattle.http_answer.specs.Places.Action.{Reads, ListsMethods, IsRefused, IsUnknown}
 use Rattle.http_answer.specs.Places.Place.{Board, Positions, Mainlines, FoldersOfGames, Whole}
-use Rattle.http_answer.specs.Replies.{Asked, IsPlayedOn, AnswersEach, AnswersText, object_text, objects_text}
+use Rattle.http_answer.specs.Replies.{Asked, HasLines, IsPlayedOn, AnswersEach, AnswersText, object_text, objects_text}
 use Rattle.http_answer.specs.Replies.Asked.{Page, Values, Mainline, NoText, ValuesOfEach, TooMany, Methods, OtherMethod, UnknownMethod, Elsewhere}
 
 -- what is at a path, of the code's own value for it
@@ -85,6 +83,10 @@ AddsObject disk folder words old new = (l : ApiLine) × AnswersText disk folder 
 abbrev pub AreObjects : DiskFacts → Folder → List ℕ → List ℕ → Type 0
 AreObjects disk folder body objects = (ls : List ApiLine) × AnswersEach disk folder (asked_lines body) ls × (objects ≡ objects_text ls)
 
+-- the response has the answers for these texts
+abbrev pub HasAnswers : DiskFacts → Folder → List (List ℕ) → Response → Type 0
+HasAnswers disk folder texts r = (ls : List ApiLine) × AnswersEach disk folder texts ls × HasLines ls r
+
 -- One ply of a line of best play: no move is legal, or one is added, which ends the line or leads to this position.
 abbrev pub IsOnePly : DiskFacts → Folder → Parts → List ApiMove → List ApiMove → Option Parts → Type 0
 IsOnePly disk folder p old new None =
@@ -121,26 +123,17 @@ abbrev pub IsKeptAt : Option Instant → ReadReport → Option Kept → Type 0
 IsKeptAt None report kept = kept ≡ None
 IsKeptAt (Some now) report kept = kept ≡ Some (record { report = report; since = now })
 
+-- what is lacking is what this refusal means
+abbrev pub is_lacked : Refusal → LackedFolder → Type 0
+is_lacked refusal why = refusal ≡ lacked_by why
+
 -- a report that is kept is one of these folders in this form
-abbrev pub IsKeptReport : {D H S : Type 0} → (D → DiskFacts) → (H → StorePlaces S) → GamesOn D H → ReportForm → Option Kept → Type 0
-IsKeptReport facts stores on form None = Unit {0}
-IsKeptReport facts stores on form (Some kept) = IsReport facts stores on form (report_in kept.report)
+abbrev pub IsKeptReport : {G T P F K S L : Type 0} → (G → Outside T P F K S L) → GamesOn G → ReportForm → Option Kept → Type 0
+IsKeptReport outside on form None = Unit {0}
+IsKeptReport outside on form (Some kept) = IsReport outside on form (report_in kept.report)
 
-abbrev pub AreKeptReports : {D H S : Type 0} → (D → DiskFacts) → (H → StorePlaces S) → GamesOn D H → Option Kept → Option Kept → Type 0
-AreKeptReports facts stores on json metrics = IsKeptReport facts stores on AsJson json × IsKeptReport facts stores on AsMetrics metrics
-
--- what a folder of a disk has of a game, and a second one if it is named; none where they list no file of it
-abbrev pub FindsGame : DiskFacts → List ℕ → Option (List ℕ) → List ℕ → Option GameFound → Type 0
-FindsGame disk games other stamp None = ListsNoGame disk games other stamp
-FindsGame disk games other stamp (Some g) = IsGameFound disk games other stamp g.first g.both
-
--- what is found in folders of games by a look at them
-abbrev pub IsFoundBy : {D H S T : Type 0} → (D → DiskFacts) → (H → StorePlaces S) → GamesOn D H → (DiskFacts → List ℕ → Option (List ℕ) → T → Type 0) → T → Type 0
-IsFoundBy facts stores on finds found = IsSeen facts stores on (λ d. finds d on.games on.other found)
-
--- the folders can't be listed
-abbrev pub LacksList : DiskFacts → List ℕ → Option (List ℕ) → LackedFolder → Type 0
-LacksList disk games other why = (why ≡ lacked.Files) × CannotList disk games other
+abbrev pub AreKeptReports : {G T P F K S L : Type 0} → (G → Outside T P F K S L) → GamesOn G → Option Kept → Option Kept → Type 0
+AreKeptReports outside on json metrics = IsKeptReport outside on AsJson json × IsKeptReport outside on AsMetrics metrics
 
 -- ---- the object of a game, as it is written
 

@@ -1,3 +1,4 @@
+pub mod Files
 pub mod Games
 pub mod Inside
 pub mod Places

@@ -3,10 +3,11 @@
 ghost use Rattle.std.specs.Prelude.{◌≡◌, ◌≤◌, ◌++◌, ◌∷◌, [], List, IfErr, IfOk, OnOk};
 ghost use Rattle.http_server.specs.Response.{IsBlank};
 ghost use Rattle.http_answer.specs.Games.{AnswersAlone};
-ghost use Rattle.http_answer.specs.Inside.{AddsObject, AreObjects, IsOnePly, asked_for};
+ghost use Rattle.http_answer.specs.Inside.{AddsObject, AreObjects, HasAnswers, IsOnePly, asked_for};
 ghost use Rattle.http_answer.specs.Queries.{asked_lines};
-ghost use Rattle.http_answer.specs.Replies.{HasLine, HasLines, IsBestPlay, IsLineOfPlay, IsPlayedOn, IsPositionBy, IsRefusedInLine, IsRefusedLineOf, IsReplyTo, RefusesFile, AnswersMainline, AnswersMainlineOf, AnswersEach, AnswersPosition, AnswersText, most_plies, refused_words};
-ghost use Rattle.json_lines.specs.declared.api_told.ApiLine.{ApiLine};
+ghost use Rattle.http_answer.specs.Replies.{HasLine, HasLines, IsBestPlay, IsLineOfPlay, IsPlayedOn, IsPositionBy, IsRefusedInLine, IsRefusedLineOf, IsReply, IsReplyTo, RefusesFile, AnswersMainline, AnswersMainlineOf, AnswersEach, AnswersPosition, AnswersText, most_plies, refused_words};
+ghost use Rattle.game_reports.specs.Readings.{OnlyReads};
+ghost use Rattle.http_answer.specs.Files.{files_of};
 ghost use Rattle.table_folder.specs.Settled.{IsRefusedAt, IsRefusedFor, IsWithMoves};
 
 use crate::asking::{Topic, topic_of};
@@ -23,32 +24,33 @@ use bumpalo::Bump;
 use bytes::Bytes;
 use fen_text::read;
 use http::{Request, StatusCode};
-use http_server::{Response, Service};
+use http_server::Response;
 use json_lines::{ApiLine, ApiMove, ApiPosition, Ask, JsonLine};
 use judge_core::Set;
 use std::alloc::{AllocError, Global};
 use std::marker::Model;
-use system_io::Disk;
-use table_folder::{FileRefusal, TableFolder};
+use table_folder::{FileRefusal, SystemFiles, TableFiles, TableFolder};
+use timeline::System;
 
 /// Answers requests by the tables of a folder, each of which is read when a position asks for it.
 ///
 /// Contracts see the disk and the folder.
 #[derive(Drop)]
-pub struct Answerer<'r, D: Disk> {
+pub struct Answerer<'r, 's, S: System> {
     alloc: Global,
-    folder: TableFolder<'r, D>,
+    folder: TableFolder<'r, SystemFiles<'s, S>>,
     set: Set<'r>,
 }
 
-impl<'r, D: Disk> Model for Answerer<'r, D> {
+impl<'r, 's, S: System> Model for Answerer<'r, 's, S> {
     ghost use Rattle.table_folder.specs.Folders.{AreOf, FolderOn};
+    ghost use Rattle.table_folder.specs.declared.files.SystemFiles.{SystemFiles};
 
-    ghost Value = { FolderOn D };
+    ghost Value = { FolderOn (SystemFiles S) };
 
     ghost view = { λ a. a.folder };
 
-    ghost invariant = { λ a. AreOf (D.facts a.folder.disk) a.folder.folder a.set.tables };
+    ghost invariant = { λ a. AreOf (S.outside a.folder.disk.system.now).disk a.folder.folder a.set.tables };
 }
 
 /// How many plies a line of play has at most.
@@ -80,14 +82,14 @@ fn refusal_of(refusal: &FileRefusal) -> ApiLine
     ApiLine::Refused(refused_words(refusal))
 }
 
-impl<'r, D: Disk> Answerer<'r, D> {
+impl<'r, 's, S: System> Answerer<'r, 's, S> {
     /// An answerer by the tables of a folder, none of which is open yet, with a cache of so many blocks. The error comes where memory is
     /// refused.
     pub fn over(
         alloc: Global,
-        folder: TableFolder<'r, D>,
+        folder: TableFolder<'r, SystemFiles<'s, S>>,
         cache: usize,
-    ) -> Result<Answerer<'r, D>, AllocError>
+    ) -> Result<Answerer<'r, 's, S>, AllocError>
         requires some { 1 ≤ cache }
         requires most { cache ≤ 4096 }
         ensures { IfOk result (λ a. a ≡ folder.entry) }
@@ -97,9 +99,9 @@ impl<'r, D: Disk> Answerer<'r, D> {
     }
 
     /// An answerer by this folder over another arena, with no table open. The error comes where memory is refused.
-    pub(crate) fn apart<'s>(&self, arena: &'s Bump) -> Result<Answerer<'s, D>, AllocError>
+    pub(crate) fn apart<'b>(&self, arena: &'b Bump) -> Result<Answerer<'b, 's, S>, AllocError>
     where
-        'r: 's,
+        'r: 'b,
         ensures { IfOk result (λ a. a ≡ self.now) }
     {
         let folder = self.folder.apart(arena)?;
@@ -107,13 +109,18 @@ impl<'r, D: Disk> Answerer<'r, D> {
     }
 
     /// What tables say of a position and of its legal moves, or the refusal of the file of one that is needed.
-    fn line_of(&mut self, position: &Position) -> Result<ApiLine, AllocError>
-        ensures answer { IfOk result (AnswersPosition (D.facts self.old.disk) self.old.folder position.now) }
+    fn line_of(
+        &mut self,
+        timeline: &mut S::Timeline,
+        position: &Position,
+    ) -> Result<ApiLine, AllocError>
+        ensures answer { IfOk result (AnswersPosition (files_of S.outside self.old.disk) self.old.folder position.now) }
         ensures same { self.new ≡ self.old }
+        ensures made { OnlyReads (S.outside self.old.disk.system.now) timeline.old timeline.new }
     {
         if let Err(refusal) = self
             .folder
-            .settle_moves(&mut (), self.alloc, &mut self.set, position)?
+            .settle_moves(timeline, self.alloc, &mut self.set, position)?
         {
             return Ok(refusal_of(&refusal));
         }
@@ -121,13 +128,18 @@ impl<'r, D: Disk> Answerer<'r, D> {
     }
 
     /// What tables say of a position, or the refusal of the file of one that it needs.
-    pub(crate) fn line_alone(&mut self, position: &Position) -> Result<JsonLine, AllocError>
-        ensures answer { IfOk result (AnswersAlone (D.facts self.old.disk) self.old.folder position.now) }
+    pub(crate) fn line_alone(
+        &mut self,
+        timeline: &mut S::Timeline,
+        position: &Position,
+    ) -> Result<JsonLine, AllocError>
+        ensures answer { IfOk result (AnswersAlone (files_of S.outside self.old.disk) self.old.folder position.now) }
         ensures same { self.new ≡ self.old }
+        ensures made { OnlyReads (S.outside self.old.disk.system.now) timeline.old timeline.new }
     {
         if let Err(refusal) = self
             .folder
-            .settle(&mut (), self.alloc, &mut self.set, position)?
+            .settle(timeline, self.alloc, &mut self.set, position)?
         {
             return Ok(JsonLine::Refused(refused_words(&refusal)));
         }
@@ -135,12 +147,14 @@ impl<'r, D: Disk> Answerer<'r, D> {
     }
 
     /// The answer for a text.
-    fn line_for(&mut self, text: &[u8]) -> Result<ApiLine, AllocError>
-        ensures answer { IfOk result (AnswersText (D.facts self.old.disk) self.old.folder text.now) }
+    #[tactic(auto, using(crate::proofs::OpenReadLaws::no_reads))]
+    fn line_for(&mut self, timeline: &mut S::Timeline, text: &[u8]) -> Result<ApiLine, AllocError>
+        ensures answer { IfOk result (AnswersText (files_of S.outside self.old.disk) self.old.folder text.now) }
         ensures same { self.new ≡ self.old }
+        ensures made { OnlyReads (S.outside self.old.disk.system.now) timeline.old timeline.new }
     {
         match read(text) {
-            Ok(position) => self.line_of(&position),
+            Ok(position) => self.line_of(timeline, &position),
             Err(fault) => Ok(ApiLine::Fault(fault)),
         }
     }
@@ -148,15 +162,17 @@ impl<'r, D: Disk> Answerer<'r, D> {
     /// What tables say of a position, or the refusal of the file of one that it needs.
     fn position_by(
         &mut self,
+        timeline: &mut S::Timeline,
         position: &Position,
     ) -> Result<Result<ApiPosition, FileRefusal>, AllocError>
-        ensures answer { IfOk result (λ found. IfOk found (IsPositionBy (D.facts self.old.disk) self.old.folder position.now)) }
-        ensures refused { IfOk result (λ found. IfErr found (IsRefusedAt (D.facts self.old.disk) self.old.folder position.now)) }
+        ensures answer { IfOk result (λ found. IfOk found (IsPositionBy (files_of S.outside self.old.disk) self.old.folder position.now)) }
+        ensures refused { IfOk result (λ found. IfErr found (IsRefusedAt (files_of S.outside self.old.disk) self.old.folder position.now)) }
         ensures same { self.new ≡ self.old }
+        ensures made { OnlyReads (S.outside self.old.disk.system.now) timeline.old timeline.new }
     {
         if let Err(refusal) = self
             .folder
-            .settle_one(&mut (), self.alloc, &mut self.set, position)?
+            .settle_one(timeline, self.alloc, &mut self.set, position)?
         {
             return Ok(Err(refusal));
         }
@@ -167,15 +183,17 @@ impl<'r, D: Disk> Answerer<'r, D> {
     /// The best move of a position, or the refusal of the file of a table that is needed.
     fn best_move(
         &mut self,
+        timeline: &mut S::Timeline,
         position: &Position,
     ) -> Result<Result<Option<ApiMove>, FileRefusal>, AllocError>
-        ensures answer { IfOk result (λ found. IfOk found (IsPlayedOn (D.facts self.old.disk) self.old.folder position.now)) }
-        ensures refused { IfOk result (λ found. IfErr found (IsRefusedFor (D.facts self.old.disk) self.old.folder (IsWithMoves position.now))) }
+        ensures answer { IfOk result (λ found. IfOk found (IsPlayedOn (files_of S.outside self.old.disk) self.old.folder position.now)) }
+        ensures refused { IfOk result (λ found. IfErr found (IsRefusedFor (files_of S.outside self.old.disk) self.old.folder (IsWithMoves position.now))) }
         ensures same { self.new ≡ self.old }
+        ensures made { OnlyReads (S.outside self.old.disk.system.now) timeline.old timeline.new }
     {
         if let Err(refusal) = self
             .folder
-            .settle_moves(&mut (), self.alloc, &mut self.set, position)?
+            .settle_moves(timeline, self.alloc, &mut self.set, position)?
         {
             return Ok(Err(refusal));
         }
@@ -186,14 +204,16 @@ impl<'r, D: Disk> Answerer<'r, D> {
     /// One ply of a line of best play from a position, added to those before it: whether the line goes on, and from which position.
     fn play_on(
         &mut self,
+        timeline: &mut S::Timeline,
         position: &Position,
         plies: &mut Vec<ApiMove>,
     ) -> Result<Result<Option<Position>, FileRefusal>, AllocError>
-        ensures played { IfOk result (λ found. IfOk found (IsOnePly (D.facts self.old.disk) self.old.folder position.now plies.old.items plies.new.items)) }
-        ensures refused { IfOk result (λ found. IfErr found (IsRefusedFor (D.facts self.old.disk) self.old.folder (IsWithMoves position.now))) }
+        ensures played { IfOk result (λ found. IfOk found (IsOnePly (files_of S.outside self.old.disk) self.old.folder position.now plies.old.items plies.new.items)) }
+        ensures refused { IfOk result (λ found. IfErr found (IsRefusedFor (files_of S.outside self.old.disk) self.old.folder (IsWithMoves position.now))) }
         ensures same { self.new ≡ self.old }
+        ensures made { OnlyReads (S.outside self.old.disk.system.now) timeline.old timeline.new }
     {
-        let best = match self.best_move(position)? {
+        let best = match self.best_move(timeline, position)? {
             Ok(best) => best,
             Err(refusal) => return Ok(Err(refusal)),
         };
@@ -210,16 +230,18 @@ impl<'r, D: Disk> Answerer<'r, D> {
     /// A line of best play, or the refusal of the file of a table that it comes to.
     fn plies_from(
         &mut self,
+        timeline: &mut S::Timeline,
         start: &Position,
     ) -> Result<Result<Vec<ApiMove>, FileRefusal>, AllocError>
-        ensures answer { IfOk result (λ found. IfOk found (λ plies. IsBestPlay (D.facts self.old.disk) self.old.folder start.now plies.items)) }
-        ensures refused { IfOk result (λ found. IfErr found (IsRefusedInLine (D.facts self.old.disk) self.old.folder most_plies start.now)) }
+        ensures answer { IfOk result (λ found. IfOk found (λ plies. IsBestPlay (files_of S.outside self.old.disk) self.old.folder start.now plies.items)) }
+        ensures refused { IfOk result (λ found. IfErr found (IsRefusedInLine (files_of S.outside self.old.disk) self.old.folder most_plies start.now)) }
         ensures same { self.new ≡ self.old }
+        ensures made { OnlyReads (S.outside self.old.disk.system.now) timeline.old timeline.new }
     {
         let mut plies = Vec::new(self.alloc);
         let mut position = *start;
         for _ in 0..MOST_PLIES {
-            match self.play_on(&position, &mut plies)? {
+            match self.play_on(timeline, &position, &mut plies)? {
                 Ok(Some(next)) => position = next,
                 Ok(None) => return Ok(Ok(plies)),
                 Err(refusal) => return Ok(Err(refusal)),
@@ -229,97 +251,138 @@ impl<'r, D: Disk> Answerer<'r, D> {
     }
 
     /// A line of best play where a side wins, and else none; or the refusal of the file of a table that it comes to.
+    #[tactic(auto, using(crate::proofs::OpenReadLaws::no_reads))]
     fn line_of_play(
         &mut self,
+        timeline: &mut S::Timeline,
         winner: Option<Side>,
         start: &Position,
     ) -> Result<Result<Vec<ApiMove>, FileRefusal>, AllocError>
-        ensures answer { IfOk result (λ found. IfOk found (λ plies. IsLineOfPlay (D.facts self.old.disk) self.old.folder winner start.now plies.items)) }
-        ensures refused { IfOk result (λ found. IfErr found (IsRefusedLineOf (D.facts self.old.disk) self.old.folder winner start.now)) }
+        ensures answer { IfOk result (λ found. IfOk found (λ plies. IsLineOfPlay (files_of S.outside self.old.disk) self.old.folder winner start.now plies.items)) }
+        ensures refused { IfOk result (λ found. IfErr found (IsRefusedLineOf (files_of S.outside self.old.disk) self.old.folder winner start.now)) }
         ensures same { self.new ≡ self.old }
+        ensures made { OnlyReads (S.outside self.old.disk.system.now) timeline.old timeline.new }
     {
         match winner {
-            Some(_) => self.plies_from(start),
+            Some(_) => self.plies_from(timeline, start),
             None => Ok(Ok(Vec::new(self.alloc))),
         }
     }
 
     /// A position and the line of best play from it, or the refusal of the file of a table that is needed.
-    fn mainline_of(&mut self, position: &Position) -> Result<ApiLine, AllocError>
-        ensures answer { IfOk result (AnswersMainline (D.facts self.old.disk) self.old.folder position.now) }
+    fn mainline_of(
+        &mut self,
+        timeline: &mut S::Timeline,
+        position: &Position,
+    ) -> Result<ApiLine, AllocError>
+        ensures answer { IfOk result (AnswersMainline (files_of S.outside self.old.disk) self.old.folder position.now) }
         ensures same { self.new ≡ self.old }
+        ensures made { OnlyReads (S.outside self.old.disk.system.now) timeline.old timeline.new }
     {
-        let known = match self.position_by(position)? {
+        let known = match self.position_by(timeline, position)? {
             Ok(known) => known,
             Err(refusal) => return Ok(refusal_of(&refusal)),
         };
-        match self.line_of_play(known.winner(), position)? {
+        match self.line_of_play(timeline, known.winner(), position)? {
             Ok(plies) => Ok(ApiLine::Mainline(known, plies)),
             Err(refusal) => Ok(refusal_of(&refusal)),
         }
     }
 
     /// The line of best play from the position of a text.
-    fn mainline_for(&mut self, text: &[u8]) -> Result<ApiLine, AllocError>
-        ensures answer { IfOk result (AnswersMainlineOf (D.facts self.old.disk) self.old.folder text.now) }
+    #[tactic(auto, using(crate::proofs::OpenReadLaws::no_reads))]
+    fn mainline_for(
+        &mut self,
+        timeline: &mut S::Timeline,
+        text: &[u8],
+    ) -> Result<ApiLine, AllocError>
+        ensures answer { IfOk result (AnswersMainlineOf (files_of S.outside self.old.disk) self.old.folder text.now) }
         ensures same { self.new ≡ self.old }
+        ensures made { OnlyReads (S.outside self.old.disk.system.now) timeline.old timeline.new }
     {
         match read(text) {
-            Ok(position) => self.mainline_of(&position),
+            Ok(position) => self.mainline_of(timeline, &position),
             Err(fault) => Ok(ApiLine::Fault(fault)),
         }
     }
 
     /// Adds the object for a line of a body, and a line feed.
-    fn add_line(&mut self, words: &[u8], objects: &mut Vec<u8>) -> Result<(), AllocError>
-        ensures answer { OnOk result (AddsObject (D.facts self.old.disk) self.old.folder words.now objects.old.items objects.new.items) }
+    #[tactic(auto, using(crate::proofs::OpenReadLaws::no_reads))]
+    fn add_line(
+        &mut self,
+        timeline: &mut S::Timeline,
+        words: &[u8],
+        objects: &mut Vec<u8>,
+    ) -> Result<(), AllocError>
+        ensures answer { OnOk result (AddsObject (files_of S.outside self.old.disk) self.old.folder words.now objects.old.items objects.new.items) }
         ensures same { self.new ≡ self.old }
+        ensures made { OnlyReads (S.outside self.old.disk.system.now) timeline.old timeline.new }
     {
         let text = position_text(self.alloc, words)?;
-        let line = self.line_for(&text)?;
+        let line = self.line_for(timeline, &text)?;
         add_object_line(objects, &line)
     }
 
     /// The objects for the lines of a body, a line each.
-    fn objects_for(&mut self, body: &[u8]) -> Result<Vec<u8>, AllocError>
-        ensures answer { IfOk result (λ objects. AreObjects (D.facts self.old.disk) self.old.folder body.now objects.items) }
+    fn objects_for(
+        &mut self,
+        timeline: &mut S::Timeline,
+        body: &[u8],
+    ) -> Result<Vec<u8>, AllocError>
+        ensures answer { IfOk result (λ objects. AreObjects (files_of S.outside self.old.disk) self.old.folder body.now objects.items) }
         ensures same { self.new ≡ self.old }
+        ensures made { OnlyReads (S.outside self.old.disk.system.now) timeline.old timeline.new }
     {
         let mut objects = Vec::new(self.alloc);
         let mut rest = body;
         while let Some((line, tail)) = first_line(rest) {
-            self.add_line(line, &mut objects)?;
+            self.add_line(timeline, line, &mut objects)?;
             rest = tail;
         }
         Ok(objects)
     }
 
     /// Fills the response for the lines of a body.
-    fn answer_lines(&mut self, body: &[u8], response: &mut Response) -> Result<(), AllocError>
+    fn answer_lines(
+        &mut self,
+        timeline: &mut S::Timeline,
+        body: &[u8],
+        response: &mut Response,
+    ) -> Result<(), AllocError>
         requires { IsBlank response.old }
-        ensures answer { OnOk result ((ls : List ApiLine) × AnswersEach (D.facts self.old.disk) self.old.folder (asked_lines body.now) ls × HasLines ls response.new) }
+        ensures answer { OnOk result (HasAnswers (files_of S.outside self.old.disk) self.old.folder (asked_lines body.now) response.new) }
         ensures same { self.new ≡ self.old }
+        ensures made { OnlyReads (S.outside self.old.disk.system.now) timeline.old timeline.new }
     {
-        let objects = self.objects_for(body)?;
+        let objects = self.objects_for(timeline, body)?;
         fill_objects(response, &objects)
     }
 
     /// Fills the response for what is asked for.
-    fn reply(&mut self, topic: &Topic, response: &mut Response) -> Result<(), AllocError>
+    #[tactic(auto, using(crate::proofs::OpenReadLaws::no_reads))]
+    fn reply(
+        &mut self,
+        timeline: &mut S::Timeline,
+        topic: &Topic,
+        response: &mut Response,
+    ) -> Result<(), AllocError>
         requires { IsBlank response.old }
-        ensures replied { OnOk result (IsReplyTo (D.facts self.old.disk) self.old.folder (asked_for topic.now) response.new) }
+        ensures replied { OnOk result (IsReplyTo (files_of S.outside self.old.disk) self.old.folder (asked_for topic.now) response.new) }
         ensures same { self.new ≡ self.old }
+        ensures made { OnlyReads (S.outside self.old.disk.system.now) timeline.old timeline.new }
     {
         match topic {
             Topic::Page => fill_page(response, PAGE),
-            Topic::Values(text) => fill_line(self.alloc, response, &self.line_for(text)?),
-            Topic::Mainline(text) => { fill_line(self.alloc, response, &self.mainline_for(text)?) }
+            Topic::Values(text) => fill_line(self.alloc, response, &self.line_for(timeline, text)?),
+            Topic::Mainline(text) => {
+                fill_line(self.alloc, response, &self.mainline_for(timeline, text)?)
+            }
             Topic::NoText => fill_error(
                 response,
                 StatusCode::BAD_REQUEST,
                 b"{\"error\":\"FEN missing\"}",
             ),
-            Topic::Lines(body) => self.answer_lines(body.as_slice(), response),
+            Topic::Lines(body) => self.answer_lines(timeline, body.as_slice(), response),
             Topic::TooManyLines => fill_error(
                 response,
                 StatusCode::PAYLOAD_TOO_LARGE,
@@ -331,26 +394,32 @@ impl<'r, D: Disk> Answerer<'r, D> {
             Topic::Elsewhere => fill_elsewhere(response),
         }
     }
-}
 
-impl<'r, D: Disk> Service for Answerer<'r, D> {
-    ghost use Rattle.http_answer.specs.Replies.{Replies};
-
-    ghost answers = { Replies D.facts };
-
-    fn call(
+    /// Fills the response to a request, which comes blank. Where a table that is needed has no room, all that the request needs are read for
+    /// it alone. The error comes where memory is refused for that too.
+    pub fn answer(
         &mut self,
+        timeline: &mut S::Timeline,
         request: &Request<Bytes>,
         response: &mut Response,
-    ) -> Result<(), AllocError> {
+    ) -> Result<(), AllocError>
+        requires { IsBlank response.old }
+        ensures replied { OnOk result (IsReply (files_of S.outside) self.old request.now response.new) }
+        ensures same { self.new ≡ self.old }
+        ensures made { OnlyReads (S.outside self.old.disk.system.now) timeline.old timeline.new }
+    {
         let topic = topic_of(self.alloc, request)?;
-        if self.reply(&topic, response).is_ok() {
+        if self.reply(timeline, &topic, response).is_ok() {
             return Ok(());
         }
-        // There is no room for a table that is needed: all that the request needs are read for it alone.
         response.clear();
         let arena = Bump::new(self.alloc);
         let mut apart = self.apart(&arena)?;
-        apart.reply(&topic, response)
+        apart.reply(timeline, &topic, response)
+    }
+
+    /// Where memory comes from.
+    pub(crate) fn alloc(&self) -> Global {
+        self.alloc
     }
 }

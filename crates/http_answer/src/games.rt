@@ -1,101 +1,41 @@
 //! Folders of games, of which requests ask.
 
-ghost use Rattle.std.specs.Prelude.{◌≡◌, IfErr, IfNone, IfOk, IfSome, IsErrOf, ℕ, List, None, Option, Some, is_some, option_map};
-ghost use Rattle.game_status.specs.Listings.{CannotList};
+ghost use Rattle.std.specs.Prelude.{◌≡◌, IfErr, IfNone, IfOk, IfSome, None, Some, is_some, option_map};
+ghost use Rattle.game_reports.specs.Asked.{AreBothNamed};
+ghost use Rattle.game_reports.specs.Readings.{OnlyReads};
 ghost use Rattle.http_answer.specs.Games.{IsGameOrNone, IsReport, LacksGames, fresh_at, games_on, is_fresh, kept_at, kept_by, unread_games, with_kept};
-ghost use Rattle.http_answer.specs.Inside.{IsFoundBy, IsKeptAt, LacksList, kept_in, report_in};
+ghost use Rattle.http_answer.specs.Inside.{IsKeptAt, is_lacked, kept_in, report_in};
 ghost use Rattle.http_answer.specs.Times.{nanos};
 ghost use Rattle.std.specs.Time.{instant_nanos};
-ghost use Rattle.system_io.specs.Disks.{DiskFacts};
 
 use crate::times::Times;
-use game_status::{GameFound, LackedFolder, ReportForm, look_at_game, over_store, status_report};
+use answer_parts::Refusal;
+use game_reports::{GameFound, read_game, read_report};
+use game_status::ReportForm;
 use move_msg::Stamp;
 use std::alloc::{AllocError, Global};
 use std::marker::Model;
 use std::time::Instant;
-use system_io::{Disk, Host, ReadFault};
+use timeline::System;
+
+/// What is lacking of a folder of games.
+#[derive(Clone, Copy, PartialEq, Eq)]
+pub enum LackedFolder {
+    /// It can't be listed.
+    Files,
+    /// Its store can't be read.
+    Store,
+}
 
 /// Folders of games.
 #[derive(Clone, Copy)]
-pub struct GameFolders<'r, D, H> {
-    /// Where they are.
-    pub disk: &'r D,
-    /// What reads their stores.
-    pub host: &'r H,
+pub struct GameFolders<'r, S> {
+    /// The system where they are, and where their stores are read.
+    pub system: &'r S,
     /// The first one.
     pub games: &'r str,
     /// The second one, with which the first is compared, if it is named.
     pub other: Option<&'r str>,
-}
-
-/// What is read of folders of games.
-pub(crate) trait Reading {
-    /// What is found.
-    type Found;
-
-    /// What may be found in a folder of a disk, and in a second one if it is named.
-    ghost finds: { Self → DiskFacts → List ℕ → Option (List ℕ) → Self.Found → Type 0 };
-
-    /// Reads the folders.
-    fn read<D: Disk>(
-        &self,
-        alloc: Global,
-        disk: &D,
-        games: &str,
-        other: Option<&str>,
-    ) -> Result<Self::Found, ReadFault>
-        ensures found { IfOk result ((finds self.now) (D.facts disk.now) games.now (option_map (λ s. s.now) other.entry)) }
-        ensures cause { IsErrOf result ReadFault.Unreadable → CannotList (D.facts disk.now) games.now (option_map (λ s. s.now) other.entry) };
-}
-
-/// A report on all games.
-#[derive(Clone, Copy)]
-struct AllGames {
-    form: ReportForm,
-}
-
-impl Reading for AllGames {
-    type Found = Vec<u8>;
-
-    ghost use Rattle.std.specs.Prelude.{true};
-    ghost use Rattle.game_status.specs.Reports.{IsStatusReport, form_of};
-
-    ghost finds = { λ all disk games other text. IsStatusReport (form_of all.form) disk games other text.items true };
-
-    fn read<D: Disk>(
-        &self,
-        alloc: Global,
-        disk: &D,
-        games: &str,
-        other: Option<&str>,
-    ) -> Result<Vec<u8>, ReadFault> {
-        status_report(alloc, disk, games, other, self.form)
-    }
-}
-
-/// What is found of the game with a stamp; none where no folder lists its file.
-#[derive(Clone, Copy)]
-struct OneGame {
-    stamp: Stamp,
-}
-
-impl Reading for OneGame {
-    type Found = Option<GameFound>;
-
-    ghost use Rattle.http_answer.specs.Inside.{FindsGame};
-
-    ghost finds = { λ one disk games other found. FindsGame disk games other one.stamp found };
-
-    fn read<D: Disk>(
-        &self,
-        alloc: Global,
-        disk: &D,
-        games: &str,
-        other: Option<&str>,
-    ) -> Result<Option<GameFound>, ReadFault> {
-        look_at_game(alloc, disk, games, other, self.stamp)
-    }
 }
 
 /// What is found in folders of games, or what is lacking of one.
@@ -104,48 +44,58 @@ pub(crate) type Found<T> = Result<T, LackedFolder>;
 /// A report on all games, or what is lacking of a folder.
 pub(crate) type Report = Found<Vec<u8>>;
 
-/// What is found in folders of games on a disk.
-fn found_on<D: Disk, K: Reading>(
-    alloc: Global,
-    disk: &D,
-    games: &str,
-    other: Option<&str>,
-    what: &K,
-) -> Result<Found<K::Found>, AllocError>
-    ensures found { IfOk result (λ r. IfOk r ((K.finds what.now) (D.facts disk.now) games.now (option_map (λ s. s.now) other.entry))) }
-    ensures lacked { IfOk result (λ r. IfErr r (LacksList (D.facts disk.now) games.now (option_map (λ s. s.now) other.entry))) }
+/// What is lacking of a folder that is refused. The error comes where memory was refused.
+fn lacked_by(refusal: Refusal) -> Result<LackedFolder, AllocError>
+    ensures { IfOk result (is_lacked refusal) }
 {
-    match what.read(alloc, disk, games, other) {
-        Ok(found) => Ok(Ok(found)),
-        Err(ReadFault::Unreadable) => Ok(Err(LackedFolder::Files)),
-        Err(ReadFault::OutOfMemory) => Err(AllocError),
+    match refusal {
+        Refusal::Files => Ok(LackedFolder::Files),
+        Refusal::Store => Ok(LackedFolder::Store),
+        _ => Err(AllocError),
     }
 }
 
-impl<'r, D: Disk, H: Host> GameFolders<'r, D, H> {
-    /// What is found in the folders, by their stores.
-    fn look<K: Reading>(&self, alloc: Global, what: &K) -> Result<Found<K::Found>, AllocError>
-        ensures found { IfOk result (λ r. IfOk r (λ found. IsFoundBy D.facts H.stores (games_on self.now) (K.finds what.now) found)) }
-        ensures lacked { IfOk result (λ r. IfErr r (LacksGames D.facts H.stores (games_on self.now))) }
+impl<'r, S: System> GameFolders<'r, S> {
+    /// A report on the games, as it is read now.
+    fn report(
+        &self,
+        alloc: Global,
+        timeline: &mut S::Timeline,
+        form: ReportForm,
+    ) -> Result<Report, AllocError>
+        ensures report { IfOk result (λ r. IsReport S.outside (games_on self.now) form (report_in r)) }
+        ensures made { OnlyReads (S.outside self.now.system.now) timeline.old timeline.new }
     {
-        let first = match over_store(alloc, self.disk, self.host, self.games)? {
-            Ok(first) => first,
-            Err(lacked) => return Ok(Err(lacked)),
-        };
-        let Some(other) = self.other else {
-            return found_on(alloc, &first, self.games, None, what);
-        };
-        match over_store(alloc, &first, self.host, other)? {
-            Ok(both) => found_on(alloc, &both, self.games, Some(other), what),
-            Err(lacked) => Ok(Err(lacked)),
+        match read_report(alloc, self.system, timeline, self.games, self.other, form) {
+            Ok(Ok(text)) => Ok(Ok(text)),
+            Ok(Err(refusal)) => match lacked_by(refusal) {
+                Ok(lacked) => Ok(Err(lacked)),
+                Err(fault) => Err(fault),
+            },
+            Err(fault) => Err(fault),
         }
     }
 
-    /// A report on the games.
-    fn report(&self, alloc: Global, form: ReportForm) -> Result<Report, AllocError>
-        ensures { IfOk result (λ r. IsReport D.facts H.stores (games_on self.now) form (report_in r)) }
+    /// What is found of the game with a stamp.
+    fn game(
+        &self,
+        alloc: Global,
+        timeline: &mut S::Timeline,
+        stamp: Stamp,
+    ) -> Result<Found<Option<GameFound>>, AllocError>
+        ensures game { IfOk result (λ r. IfOk r (IsGameOrNone S.outside (games_on self.now) stamp)) }
+        ensures lacked { IfOk result (λ r. IfErr r (LacksGames S.outside (games_on self.now))) }
+        ensures named { IfOk result (λ r. IfOk r (λ found. IfSome found AreBothNamed)) }
+        ensures made { OnlyReads (S.outside self.now.system.now) timeline.old timeline.new }
     {
-        self.look(alloc, &AllGames { form })
+        match read_game(alloc, self.system, timeline, self.games, self.other, stamp) {
+            Ok(Ok(found)) => Ok(Ok(found)),
+            Ok(Err(refusal)) => match lacked_by(refusal) {
+                Ok(lacked) => Ok(Err(lacked)),
+                Err(fault) => Err(fault),
+            },
+            Err(fault) => Err(fault),
+        }
     }
 }
 
@@ -202,30 +152,32 @@ fn keep_at(kept: &mut Option<Kept>, now: Option<Instant>, report: Report)
 ///
 /// Contracts see the folders, the clock, and each report that is kept, with its time.
 #[derive(Drop)]
-pub struct Games<'r, D: Disk, H: Host, C: Times> {
+pub struct Games<'r, S: System, C: Times> {
+    alloc: Global,
     clock: &'r C,
-    folders: GameFolders<'r, D, H>,
+    folders: GameFolders<'r, S>,
     json: Option<Kept>,
     metrics: Option<Kept>,
 }
 
-impl<'r, D: Disk, H: Host, C: Times> Model for Games<'r, D, H, C> {
+impl<'r, S: System, C: Times> Model for Games<'r, S, C> {
     ghost use Rattle.http_answer.specs.Games.{GamesByClock, games_on};
     ghost use Rattle.http_answer.specs.Inside.{AreKeptReports, kept_in};
 
-    ghost Value = { GamesByClock D H C };
+    ghost Value = { GamesByClock S C };
 
     ghost view = { λ g. record { on = games_on g.folders; clock = g.clock.now; json = kept_in g.json; metrics = kept_in g.metrics } };
 
-    ghost invariant = { λ g. AreKeptReports D.facts H.stores (games_on g.folders) g.json g.metrics };
+    ghost invariant = { λ g. AreKeptReports S.outside (games_on g.folders) g.json g.metrics };
 }
 
-impl<'r, D: Disk, H: Host, C: Times> Games<'r, D, H, C> {
+impl<'r, S: System, C: Times> Games<'r, S, C> {
     /// Of these folders, of which nothing is read yet, by this clock.
-    pub fn of(folders: GameFolders<'r, D, H>, clock: &'r C) -> Games<'r, D, H, C>
+    pub fn of(alloc: Global, folders: GameFolders<'r, S>, clock: &'r C) -> Games<'r, S, C>
         ensures { result ≡ unread_games (games_on folders.entry) clock.now }
     {
         Games {
+            alloc,
             clock,
             folders,
             json: None,
@@ -244,7 +196,7 @@ impl<'r, D: Disk, H: Host, C: Times> Games<'r, D, H, C> {
     pub(crate) fn fresh(&self, form: ReportForm, now: Option<Instant>) -> Option<&Report>
         ensures some { IfSome result (λ r. fresh_at (nanos now) (kept_by form self.now) ≡ Some (report_in r.now)) }
         ensures none { IfNone result (fresh_at (nanos now) (kept_by form self.now) ≡ None) }
-        ensures report { IfSome result (λ r. IsReport D.facts H.stores self.now.on form (report_in r.now)) }
+        ensures report { IfSome result (λ r. IsReport S.outside self.now.on form (report_in r.now)) }
     {
         match form {
             ReportForm::Json => fresh_report(now, &self.json),
@@ -253,15 +205,20 @@ impl<'r, D: Disk, H: Host, C: Times> Games<'r, D, H, C> {
     }
 
     /// The report in a form, as it is read now.
-    pub(crate) fn read(&self, alloc: Global, form: ReportForm) -> Result<Report, AllocError>
-        ensures { IfOk result (λ r. IsReport D.facts H.stores self.now.on form (report_in r)) }
+    pub(crate) fn read(
+        &self,
+        timeline: &mut S::Timeline,
+        form: ReportForm,
+    ) -> Result<Report, AllocError>
+        ensures report { IfOk result (λ r. IsReport S.outside self.now.on form (report_in r)) }
+        ensures made { OnlyReads (S.outside self.now.on.system) timeline.old timeline.new }
     {
-        self.folders.report(alloc, form)
+        self.folders.report(self.alloc, timeline, form)
     }
 
     /// Keeps a report in a form that was read at this time; none is kept where no time is said.
     pub(crate) fn keep(&mut self, form: ReportForm, now: Option<Instant>, report: Report)
-        requires { IsReport D.facts H.stores self.old.on form (report_in report) }
+        requires { IsReport S.outside self.old.on form (report_in report) }
         ensures kept { self.new ≡ with_kept form (kept_at (nanos now) (report_in report)) self.old }
     {
         match form {
@@ -273,13 +230,15 @@ impl<'r, D: Disk, H: Host, C: Times> Games<'r, D, H, C> {
     /// What is found of the game with a stamp; none where the folders list no file of it.
     pub(crate) fn game(
         &self,
-        alloc: Global,
+        timeline: &mut S::Timeline,
         stamp: Stamp,
     ) -> Result<Found<Option<GameFound>>, AllocError>
-        ensures game { IfOk result (λ r. IfOk r (IsGameOrNone D.facts H.stores self.now.on stamp)) }
-        ensures lacked { IfOk result (λ r. IfErr r (LacksGames D.facts H.stores self.now.on)) }
+        ensures game { IfOk result (λ r. IfOk r (IsGameOrNone S.outside self.now.on stamp)) }
+        ensures lacked { IfOk result (λ r. IfErr r (LacksGames S.outside self.now.on)) }
+        ensures named { IfOk result (λ r. IfOk r (λ found. IfSome found AreBothNamed)) }
+        ensures made { OnlyReads (S.outside self.now.on.system) timeline.old timeline.new }
     {
-        self.folders.look(alloc, &OneGame { stamp })
+        self.folders.game(self.alloc, timeline, stamp)
     }
 
     /// Whether a second folder is named.

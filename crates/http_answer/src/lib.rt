@@ -1,27 +1,30 @@
-//! What a server of tables and of games answers to a request of HTTP.
+//! What a server of tables and of games answers to a request of HTTP, over one system with a timeline.
 //!
-//! `Router` is a service of the toolchain's `http_server`. A request whose path is one of games goes to the folders of games, if they are
-//! named (`Games`), and every other one to the tables (`Answerer`).
+//! `Router::answer` fills the response to a request. A request whose path is one of games goes to the folders of games, if they are named
+//! (`Games`), and every other one to the tables (`Answerer`). It is no service of the toolchain's `http_server` itself, as it is lent the
+//! timeline: `serve_core` has that service.
 //!
-//! `Answerer` is a service of the toolchain's `http_server`, which reads requests and writes responses. It holds a folder of tables, each
-//! of which is read when a position asks for it, and its answers are a function of the request and of this folder.
+//! `Answerer` holds a folder of tables, each of which is read when a position asks for it, and its answers are a function of the request and
+//! of this folder.
 //!
-//! `Games` holds a folder of games, and a second one, if it is named, as `game_status` reads them, with the records of their stores. What
+//! `Games` holds a folder of games, and a second one, if it is named, as `game_reports` reads them, with the records of their stores. What
 //! `status` writes of all games is read where none is kept that is less than a second old, by what `Times` says. One game is read at each
 //! request, and its plies are asked of the tables; where one of these has no room, tables are read for it alone.
 //!
 //! Inside: `query` and `lines` (texts of positions in a query and in a body), `asking` (what a request asks for), `filling`, `answerer`,
 //! `page`; `times`, `games` (folders of games, and reports), `plies` (the object of a game), `router`, `watch` (a page).
 //!
-//! Definitions, in reading order: `Queries`, `Places`, `Replies`; `Times`, `Games`.
+//! Definitions, in reading order: `Queries`, `Places`, `Files`, `Replies`; `Times`, `Games`.
 //!
-//! - CLAIM: `Router`, clause `answers`: the response is the one that `IsServed` has for the request's method and path, and the folders
+//! - CLAIM: `Router::answer`, clause `answered`: the response is the one that `IsServed` has for the request's method and path, and the folders
 //!   stay the same. Of all games it is the report that `status` writes as JSON or as metrics, of one game its object with each ply, by a
-//!   look at the folders. A second folder, its comparison and its faults are as `status` has them. 404 where no folder lists the file of
-//!   the stamp, and for each path of games where no folder is named.
-//! - CLAIM: `Router`, clause `answers`: a report on all games is the one that is kept, where that is less than a second old by the clock, and
-//!   else one that is read, which is kept with the time (`IsAged`).
-//! - CLAIM: `Answerer`, clause `answers`: the response is the reply to the request (`IsReply`), and the folder stays
+//!   reading of the folders (`ReadsReport`, `ReadsGame` of game_reports). A second folder, its comparison and its faults are as `status` has
+//!   them. 404 where no folder lists the file of the stamp, and for each path of games where no folder is named.
+//! - CLAIM: `Router::answer`, clause `answered`: a report on all games is the one that is kept, where that is less than a second old by the
+//!   clock, and else one that is read, which is kept with the time (`IsAged`).
+//! - CLAIM: `Router::answer`, `Answerer::answer`, clause `made`: nothing changes outside. Folders are listed, files read or looked for, and lines
+//!   noted, whatever the result, and nothing else comes (`OnlyReads`).
+//! - CLAIM: `Answerer::answer`, clauses `replied`, `same`: the response is the reply to the request (`IsReply`), and the folder stays
 //!   the same. For a position it is an object of the tablebase API with each legal move, by tables of the folder of which none is missing
 //!   at the position and after its moves; or the refusal of the file of one that is needed. For a body it is these of each line, in turn.
 //!   For a line of best play each ply is the first root move of its position, by tables of the folder of which none is missing there. What
@@ -43,7 +46,7 @@ mod times;
 mod watch;
 
 pub use answerer::Answerer;
-pub use games::{GameFolders, Games};
+pub use games::{GameFolders, Games, LackedFolder};
 pub use page::PAGE;
 pub use query::asked_text;
 pub use router::Router;

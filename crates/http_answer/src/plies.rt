@@ -6,21 +6,22 @@ ghost use Rattle.json.specs.Json.{document};
 ghost use Rattle.json.specs.Tree.{json_tokens};
 ghost use Rattle.json_lines.specs.Objects.{line_json};
 ghost use Rattle.game_status.specs.StatusObjects.{AddsMembers, AddsTokens, AreNamed};
+ghost use Rattle.game_reports.specs.Readings.{OnlyReads};
+ghost use Rattle.http_answer.specs.Files.{files_of};
 ghost use Rattle.http_answer.specs.Games.{ArePliesOf, HasPlies, delay_in, moves_in};
 ghost use Rattle.http_answer.specs.Inside.{AddsGame, AddsList, AddsMoves, AddsNext, AddsPlies, AddsPosition, AddsStart, IsGameText, move_members};
 
 use crate::answerer::Answerer;
 use board_core::{Move, Position};
 use fen_text::{write, write_move};
-use game_status::{
-    GameFound, Look, Side, add_count, add_first, add_second_if, add_stamp, add_text,
-};
+use game_reports::GameFound;
+use game_status::{Look, Side, add_count, add_first, add_second_if, add_stamp, add_text};
 use json::{Scratch, Value, Writer};
 use json_lines::{JsonLine, put_json_line};
 use move_msg::Stamp;
 use san_text::write_san;
 use std::alloc::{AllocError, Global};
-use system_io::Disk;
+use timeline::System;
 
 /// The object of a line, as a text.
 fn object_of(alloc: Global, line: &JsonLine) -> Result<Vec<u8>, AllocError>
@@ -46,35 +47,39 @@ fn add_line(alloc: Global, text: &mut Writer, line: &JsonLine) -> Result<(), All
 }
 
 /// Adds a position and what tables say of it.
-fn add_position<D: Disk>(
-    answerer: &mut Answerer<'_, D>,
-    alloc: Global,
+#[tactic(auto, using(crate::proofs::OpenReadLaws::no_reads))]
+fn add_position<S: System>(
+    answerer: &mut Answerer<'_, '_, S>,
+    timeline: &mut S::Timeline,
     text: &mut Writer,
     position: &Position,
 ) -> Result<(), AllocError>
-    ensures added { OnOk result (AddsPosition (D.facts answerer.old.disk) answerer.old.folder position.now text.old text.new) }
+    ensures added { OnOk result (AddsPosition (files_of S.outside answerer.old.disk) answerer.old.folder position.now text.old text.new) }
     ensures same { answerer.new ≡ answerer.old }
+    ensures made { OnlyReads (S.outside answerer.old.disk.system.now) timeline.old timeline.new }
 {
     add_text(text, "fen", Some(write(position).as_str()))?;
-    let line = answerer.line_alone(position)?;
+    let line = answerer.line_alone(timeline, position)?;
     text.key("tables")?;
-    add_line(alloc, text, &line)
+    add_line(answerer.alloc(), text, &line)
 }
 
 /// Adds the ply before the first move.
-fn add_start<D: Disk>(
-    answerer: &mut Answerer<'_, D>,
-    alloc: Global,
+#[tactic(auto, using(crate::proofs::OpenReadLaws::no_reads))]
+fn add_start<S: System>(
+    answerer: &mut Answerer<'_, '_, S>,
+    timeline: &mut S::Timeline,
     text: &mut Writer,
     start: &Position,
 ) -> Result<(), AllocError>
-    ensures added { OnOk result (AddsStart (D.facts answerer.old.disk) answerer.old.folder start.now text.old text.new) }
+    ensures added { OnOk result (AddsStart (files_of S.outside answerer.old.disk) answerer.old.folder start.now text.old text.new) }
     ensures same { answerer.new ≡ answerer.old }
+    ensures made { OnlyReads (S.outside answerer.old.disk.system.now) timeline.old timeline.new }
 {
     text.begin_object()?;
     add_text(text, "uci", None)?;
     add_text(text, "san", None)?;
-    add_position(answerer, alloc, text, start)?;
+    add_position(answerer, timeline, text, start)?;
     text.end_object()
 }
 
@@ -87,17 +92,19 @@ fn add_move(text: &mut Writer, m: &Move, san: &str) -> Result<(), AllocError>
 }
 
 /// Adds the ply after a move, and returns its position; none, and nothing is added, where the move isn't legal.
-fn add_next<D: Disk>(
-    answerer: &mut Answerer<'_, D>,
-    alloc: Global,
+#[tactic(auto, using(crate::proofs::OpenReadLaws::no_reads))]
+fn add_next<S: System>(
+    answerer: &mut Answerer<'_, '_, S>,
+    timeline: &mut S::Timeline,
     text: &mut Writer,
     position: &Position,
     m: &Move,
 ) -> Result<Option<Position>, AllocError>
-    ensures added { IfOk result (λ next. IfSome next (AddsNext (D.facts answerer.old.disk) answerer.old.folder position.now m.now text.old text.new)) }
+    ensures added { IfOk result (λ next. IfSome next (AddsNext (files_of S.outside answerer.old.disk) answerer.old.folder position.now m.now text.old text.new)) }
     ensures none { IfOk result (λ next. IfNone next (position_after position.now m.now ≡ None)) }
     ensures nothing { IfOk result (λ next. IfNone next (text.new ≡ text.old)) }
     ensures same { answerer.new ≡ answerer.old }
+    ensures made { OnlyReads (S.outside answerer.old.disk.system.now) timeline.old timeline.new }
 {
     let Some(after) = position.play(*m) else {
         return Ok(None);
@@ -107,26 +114,27 @@ fn add_next<D: Disk>(
     };
     text.begin_object()?;
     add_move(text, m, san.as_str())?;
-    add_position(answerer, alloc, text, &after)?;
+    add_position(answerer, timeline, text, &after)?;
     text.end_object()?;
     Ok(Some(after))
 }
 
 /// Adds the plies after moves, up to the first one that isn't legal.
-fn add_moves<D: Disk>(
-    answerer: &mut Answerer<'_, D>,
-    alloc: Global,
+fn add_moves<S: System>(
+    answerer: &mut Answerer<'_, '_, S>,
+    timeline: &mut S::Timeline,
     text: &mut Writer,
     start: &Position,
     moves: &[Move],
 ) -> Result<(), AllocError>
-    ensures added { OnOk result (AddsMoves (D.facts answerer.old.disk) answerer.old.folder start.now moves.now text.old text.new) }
+    ensures added { OnOk result (AddsMoves (files_of S.outside answerer.old.disk) answerer.old.folder start.now moves.now text.old text.new) }
     ensures same { answerer.new ≡ answerer.old }
+    ensures made { OnlyReads (S.outside answerer.old.disk.system.now) timeline.old timeline.new }
 {
     let mut position = *start;
     let mut rest = moves;
     while let Some((m, tail)) = rest.split_first() {
-        match add_next(answerer, alloc, text, &position, m)? {
+        match add_next(answerer, timeline, text, &position, m)? {
             Some(after) => position = after,
             None => return Ok(()),
         }
@@ -146,50 +154,55 @@ fn moves_of(side: &Side) -> &[Move]
 }
 
 /// Adds the plies of what a folder has of a game.
-fn add_plies_of<D: Disk>(
-    answerer: &mut Answerer<'_, D>,
-    alloc: Global,
+fn add_plies_of<S: System>(
+    answerer: &mut Answerer<'_, '_, S>,
+    timeline: &mut S::Timeline,
     text: &mut Writer,
     side: &Side,
 ) -> Result<(), AllocError>
-    ensures added { OnOk result (AddsPlies (ArePliesOf (D.facts answerer.old.disk) answerer.old.folder side.now) text.old text.new) }
+    ensures added { OnOk result (AddsPlies (ArePliesOf (files_of S.outside answerer.old.disk) answerer.old.folder side.now) text.old text.new) }
     ensures same { answerer.new ≡ answerer.old }
+    ensures made { OnlyReads (S.outside answerer.old.disk.system.now) timeline.old timeline.new }
 {
     let start = &side.game.start;
-    add_start(answerer, alloc, text, start)?;
-    add_moves(answerer, alloc, text, start, moves_of(side))
+    add_start(answerer, timeline, text, start)?;
+    add_moves(answerer, timeline, text, start, moves_of(side))
 }
 
 /// Adds the plies of a game by what is found of it.
-fn add_plies<D: Disk>(
-    answerer: &mut Answerer<'_, D>,
-    alloc: Global,
+#[tactic(auto, using(crate::proofs::OpenReadLaws::no_reads))]
+fn add_plies<S: System>(
+    answerer: &mut Answerer<'_, '_, S>,
+    timeline: &mut S::Timeline,
     text: &mut Writer,
     look: &Look,
 ) -> Result<(), AllocError>
-    ensures added { OnOk result (AddsPlies (HasPlies (D.facts answerer.old.disk) answerer.old.folder look.now) text.old text.new) }
+    ensures added { OnOk result (AddsPlies (HasPlies (files_of S.outside answerer.old.disk) answerer.old.folder look.now) text.old text.new) }
     ensures same { answerer.new ≡ answerer.old }
+    ensures made { OnlyReads (S.outside answerer.old.disk.system.now) timeline.old timeline.new }
 {
     match look {
-        Look::One(side) => add_plies_of(answerer, alloc, text, side),
-        Look::Both(side, _, _) => add_plies_of(answerer, alloc, text, side),
+        Look::One(side) => add_plies_of(answerer, timeline, text, side),
+        Look::Both(side, _, _) => add_plies_of(answerer, timeline, text, side),
         Look::AtFault(_) | Look::OtherAtFault(_) => Ok(()),
     }
 }
 
 /// Adds the list of the plies of a game.
-fn add_list<D: Disk>(
-    answerer: &mut Answerer<'_, D>,
-    alloc: Global,
+#[tactic(auto, using(crate::proofs::OpenReadLaws::no_reads))]
+fn add_list<S: System>(
+    answerer: &mut Answerer<'_, '_, S>,
+    timeline: &mut S::Timeline,
     text: &mut Writer,
     look: &Look,
 ) -> Result<(), AllocError>
-    ensures added { OnOk result (AddsList (HasPlies (D.facts answerer.old.disk) answerer.old.folder look.now) text.old text.new) }
+    ensures added { OnOk result (AddsList (HasPlies (files_of S.outside answerer.old.disk) answerer.old.folder look.now) text.old text.new) }
     ensures same { answerer.new ≡ answerer.old }
+    ensures made { OnlyReads (S.outside answerer.old.disk.system.now) timeline.old timeline.new }
 {
     text.key("plies")?;
     text.begin_array()?;
-    add_plies(answerer, alloc, text, look)?;
+    add_plies(answerer, timeline, text, look)?;
     text.end_array()
 }
 
@@ -205,9 +218,10 @@ fn delay_of(look: &Look) -> Option<u64>
 }
 
 /// Adds the object of a game by what is found of it.
-fn add_game<D: Disk>(
-    answerer: &mut Answerer<'_, D>,
-    alloc: Global,
+#[tactic(auto, using(crate::proofs::OpenReadLaws::no_reads))]
+fn add_game<S: System>(
+    answerer: &mut Answerer<'_, '_, S>,
+    timeline: &mut S::Timeline,
     text: &mut Writer,
     stamp: Stamp,
     found: &GameFound,
@@ -215,32 +229,34 @@ fn add_game<D: Disk>(
 ) -> Result<(), AllocError>
     requires first { AreNamed found.now.first }
     requires both { AreNamed found.now.both }
-    ensures added { OnOk result (AddsGame (D.facts answerer.old.disk) answerer.old.folder compares stamp found.now text.old text.new) }
+    ensures added { OnOk result (AddsGame (files_of S.outside answerer.old.disk) answerer.old.folder compares stamp found.now text.old text.new) }
     ensures same { answerer.new ≡ answerer.old }
+    ensures made { OnlyReads (S.outside answerer.old.disk.system.now) timeline.old timeline.new }
 {
     text.begin_object()?;
     add_stamp(text, stamp)?;
     add_first(text, &found.first)?;
     add_count(text, "delay", delay_of(&found.first))?;
-    add_list(answerer, alloc, text, &found.first)?;
+    add_list(answerer, timeline, text, &found.first)?;
     add_second_if(text, &found.both, compares)?;
     text.end_object()
 }
 
 /// The text of the object of a game by what is found of it.
-pub(crate) fn game_text<D: Disk>(
-    answerer: &mut Answerer<'_, D>,
-    alloc: Global,
+pub(crate) fn game_text<S: System>(
+    answerer: &mut Answerer<'_, '_, S>,
+    timeline: &mut S::Timeline,
     stamp: Stamp,
     found: &GameFound,
     compares: bool,
 ) -> Result<Vec<u8>, AllocError>
     requires first { AreNamed found.now.first }
     requires both { AreNamed found.now.both }
-    ensures text { IfOk result (λ text. IsGameText (D.facts answerer.old.disk) answerer.old.folder compares stamp found.now text.items) }
+    ensures text { IfOk result (λ text. IsGameText (files_of S.outside answerer.old.disk) answerer.old.folder compares stamp found.now text.items) }
     ensures same { answerer.new ≡ answerer.old }
+    ensures made { OnlyReads (S.outside answerer.old.disk.system.now) timeline.old timeline.new }
 {
-    let mut text = Writer::new(Vec::new(alloc));
-    add_game(answerer, alloc, &mut text, stamp, found, compares)?;
+    let mut text = Writer::new(Vec::new(answerer.alloc()));
+    add_game(answerer, timeline, &mut text, stamp, found, compares)?;
     Ok(text.into_inner())
 }

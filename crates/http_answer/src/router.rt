@@ -2,27 +2,30 @@
 
 ghost use Rattle.std.specs.Prelude.{◌≡◌, ◌++◌, ℕ, List, IfNone, IfSome, None, OnErr, OnOk};
 ghost use Rattle.http_server.specs.Response.{IsBlank, IsResponse};
-ghost use Rattle.game_status.specs.StatusObjects.{AreNamed};
-ghost use Rattle.http_answer.specs.Games.{AnswersOfGames, AskedOfGames, AsksBelow, AsksByDigits, AsksOfGames, AsksToWatch, HasGame, HasReport, HasReportText, IsAged, IsByMethod, IsReportAt, MayAnswer, fresh_at, fresh_fields, fresh_json, is_games, is_watch, kept_by, lacked_text};
+ghost use Rattle.game_reports.specs.Asked.{AreBothNamed};
+ghost use Rattle.game_reports.specs.Readings.{OnlyReads};
+ghost use Rattle.http_answer.specs.Files.{files_of};
+ghost use Rattle.http_answer.specs.Games.{AnswersOfGames, AskedOfGames, AsksBelow, AsksByDigits, AsksOfGames, AsksToWatch, AreOfOne, HasGame, HasReport, HasReportText, IsAged, IsByMethod, IsReportAt, MayAnswer, Routes, fresh_at, fresh_fields, fresh_json, is_games, is_watch, kept_by, lacked_text};
 ghost use Rattle.http_answer.specs.Inside.{HasGameText, asked_of_games, report_in};
 ghost use Rattle.http_answer.specs.Times.{nanos};
 
 use crate::answerer::Answerer;
 use crate::asking::{Place, Verb, verb_at};
 use crate::filling::{fill_kept, fill_methods, fill_other_method, fill_page, fill_unknown_method};
-use crate::games::Games;
+use crate::games::{Games, LackedFolder};
 use crate::plies::game_text;
 use crate::times::Times;
 use crate::watch::WATCH;
 use bumpalo::Bump;
 use bytes::Bytes;
-use game_status::{GameFound, LackedFolder, ReportForm, stamp_of};
+use game_reports::GameFound;
+use game_status::{ReportForm, stamp_of};
 use http::{HeaderValue, Request, StatusCode};
-use http_server::{Response, Service};
+use http_server::Response;
 use move_msg::Stamp;
-use std::alloc::{AllocError, Global};
+use std::alloc::AllocError;
 use std::time::Instant;
-use system_io::{Disk, Host};
+use timeline::System;
 
 /// What is asked for of games.
 #[derive(Clone, Copy)]
@@ -188,49 +191,58 @@ fn fill_report(
 }
 
 /// Fills a response with what is found of a game.
-fn fill_game<D: Disk>(
-    answerer: &mut Answerer<'_, D>,
-    alloc: Global,
+fn fill_game<S: System>(
+    answerer: &mut Answerer<'_, '_, S>,
+    timeline: &mut S::Timeline,
     stamp: Stamp,
     found: &GameFound,
     compares: bool,
     response: &mut Response,
 ) -> Result<(), AllocError>
-    requires first { AreNamed found.now.first }
-    requires both { AreNamed found.now.both }
+    requires named { AreBothNamed found.now }
     requires blank { IsBlank response.old }
-    ensures game { OnOk result (HasGameText (D.facts answerer.old.disk) answerer.old.folder compares stamp found.now response.new) }
+    ensures game { OnOk result (HasGameText (files_of S.outside answerer.old.disk) answerer.old.folder compares stamp found.now response.new) }
     ensures same { answerer.new ≡ answerer.old }
+    ensures made { OnlyReads (S.outside answerer.old.disk.system.now) timeline.old timeline.new }
 {
-    let text = game_text(answerer, alloc, stamp, found, compares)?;
+    let text = game_text(answerer, timeline, stamp, found, compares)?;
     fill_fresh_json(response, StatusCode::OK, &text)
 }
 
-/// Answers by the tables of a folder, and by folders of games, if they are named.
+/// Answers by the tables of a folder, and by folders of games, if they are named, all over one system.
 #[derive(Drop)]
-pub struct Router<'r, D: Disk, H: Host, C: Times> {
-    /// Where memory comes from.
-    pub alloc: Global,
+pub struct Router<'r, 's, S: System, C: Times> {
     /// What answers by the tables.
-    pub answerer: Answerer<'r, D>,
+    pub answerer: Answerer<'r, 's, S>,
     /// The folders of games.
-    pub games: Option<Games<'r, D, H, C>>,
+    pub games: Option<Games<'r, S, C>>,
 }
 
 /// Fills the response to what is asked for of the game with a stamp.
-fn answer_game<D: Disk, H: Host, C: Times>(
-    answerer: &mut Answerer<'_, D>,
-    games: &Games<'_, D, H, C>,
-    alloc: Global,
+fn answer_game<S: System, C: Times>(
+    answerer: &mut Answerer<'_, '_, S>,
+    games: &Games<'_, S, C>,
+    timeline: &mut S::Timeline,
     stamp: Stamp,
     response: &mut Response,
 ) -> Result<(), AllocError>
-    requires { IsBlank response.old }
-    ensures game { OnOk result (HasGame (D.facts answerer.old.disk) answerer.old.folder D.facts H.stores games.now.on stamp response.new) }
+    requires one { games.now.on.system ≡ answerer.old.disk.system.now }
+    requires blank { IsBlank response.old }
+    ensures game { OnOk result (HasGame (files_of S.outside answerer.old.disk) answerer.old.folder S.outside games.now.on stamp response.new) }
     ensures same { answerer.new ≡ answerer.old }
+    ensures made { OnlyReads (S.outside answerer.old.disk.system.now) timeline.old timeline.new }
 {
-    match games.game(alloc, stamp)? {
-        Ok(Some(found)) => { fill_game(answerer, alloc, stamp, &found, games.compares(), response) }
+    match games.game(timeline, stamp)? {
+        Ok(Some(found)) => {
+            fill_game(
+                answerer,
+                timeline,
+                stamp,
+                &found,
+                games.compares(),
+                response,
+            )
+        }
         Ok(None) => fill_fresh_json(
             response,
             StatusCode::NOT_FOUND,
@@ -241,94 +253,102 @@ fn answer_game<D: Disk, H: Host, C: Times>(
 }
 
 /// The same, by tables that are read for it alone where one that is needed has no room.
-fn answer_game_with_room<D: Disk, H: Host, C: Times>(
-    answerer: &mut Answerer<'_, D>,
-    games: &Games<'_, D, H, C>,
-    alloc: Global,
+fn answer_game_with_room<S: System, C: Times>(
+    answerer: &mut Answerer<'_, '_, S>,
+    games: &Games<'_, S, C>,
+    timeline: &mut S::Timeline,
     stamp: Stamp,
     response: &mut Response,
 ) -> Result<(), AllocError>
-    requires { IsBlank response.old }
-    ensures game { OnOk result (HasGame (D.facts answerer.old.disk) answerer.old.folder D.facts H.stores games.now.on stamp response.new) }
+    requires one { games.now.on.system ≡ answerer.old.disk.system.now }
+    requires blank { IsBlank response.old }
+    ensures game { OnOk result (HasGame (files_of S.outside answerer.old.disk) answerer.old.folder S.outside games.now.on stamp response.new) }
     ensures same { answerer.new ≡ answerer.old }
+    ensures made { OnlyReads (S.outside answerer.old.disk.system.now) timeline.old timeline.new }
 {
-    if answer_game(answerer, games, alloc, stamp, response).is_ok() {
+    if answer_game(answerer, games, timeline, stamp, response).is_ok() {
         return Ok(());
     }
     response.clear();
-    let arena = Bump::new(alloc);
+    let arena = Bump::new(answerer.alloc());
     let mut apart = answerer.apart(&arena)?;
-    answer_game(&mut apart, games, alloc, stamp, response)
+    answer_game(&mut apart, games, timeline, stamp, response)
 }
 
 /// Fills the response with a report in a form, of this type, that is read at this time, since none is kept that is fresh; and keeps it.
-fn answer_anew<D: Disk, H: Host, C: Times>(
-    games: &mut Games<'_, D, H, C>,
+fn answer_anew<S: System, C: Times>(
+    games: &mut Games<'_, S, C>,
+    timeline: &mut S::Timeline,
     form: ReportForm,
     now: Option<Instant>,
-    alloc: Global,
     kind: HeaderValue,
     response: &mut Response,
 ) -> Result<(), AllocError>
     requires blank { IsBlank response.old }
     requires stale { fresh_at (nanos now) (kept_by form games.old) ≡ None }
-    ensures report { OnOk result (HasReport D.facts H.stores games.old.on form kind.bytes (IsReportAt (nanos now) form games.old games.new) response.new) }
+    ensures report { OnOk result (HasReport S.outside games.old.on form kind.bytes (IsReportAt (nanos now) form games.old games.new) response.new) }
     ensures same { OnErr result (games.new ≡ games.old) }
+    ensures made { OnlyReads (S.outside games.old.on.system) timeline.old timeline.new }
 {
-    let report = games.read(alloc, form)?;
+    let report = games.read(timeline, form)?;
     fill_report(response, kind, &report)?;
     games.keep(form, now, report);
     Ok(())
 }
 
 /// Fills the response with a report in a form, of this type.
-fn answer_report<D: Disk, H: Host, C: Times>(
-    games: &mut Games<'_, D, H, C>,
-    alloc: Global,
+#[tactic(auto, using(crate::proofs::OpenReadLaws::no_reads))]
+fn answer_report<S: System, C: Times>(
+    games: &mut Games<'_, S, C>,
+    timeline: &mut S::Timeline,
     form: ReportForm,
     kind: HeaderValue,
     response: &mut Response,
 ) -> Result<(), AllocError>
     requires { IsBlank response.old }
-    ensures report { OnOk result (HasReport D.facts H.stores games.old.on form kind.bytes (IsAged C.says form games.old games.new) response.new) }
+    ensures report { OnOk result (HasReport S.outside games.old.on form kind.bytes (IsAged C.says form games.old games.new) response.new) }
     ensures same { OnErr result (games.new ≡ games.old) }
+    ensures made { OnlyReads (S.outside games.old.on.system) timeline.old timeline.new }
 {
     let now = games.time();
     match games.fresh(form, now) {
         Some(report) => fill_report(response, kind, report),
-        None => answer_anew(games, form, now, alloc, kind, response),
+        None => answer_anew(games, timeline, form, now, kind, response),
     }
 }
 
 /// Fills the response to what is asked for of games.
-fn answer<D: Disk, H: Host, C: Times>(
-    answerer: &mut Answerer<'_, D>,
-    games: &mut Games<'_, D, H, C>,
-    alloc: Global,
+#[tactic(auto, using(crate::proofs::OpenReadLaws::no_reads))]
+fn answer<S: System, C: Times>(
+    answerer: &mut Answerer<'_, '_, S>,
+    games: &mut Games<'_, S, C>,
+    timeline: &mut S::Timeline,
     topic: GameTopic,
     response: &mut Response,
 ) -> Result<(), AllocError>
-    requires { IsBlank response.old }
-    ensures answered { OnOk result (AnswersOfGames D.facts H.stores C.says answerer.old games.old games.new (asked_of_games topic) response.new) }
+    requires one { games.old.on.system ≡ answerer.old.disk.system.now }
+    requires blank { IsBlank response.old }
+    ensures answered { OnOk result (AnswersOfGames S.outside C.says answerer.old games.old games.new (asked_of_games topic) response.new) }
     ensures same { answerer.new ≡ answerer.old }
     ensures same_games { OnErr result (games.new ≡ games.old) }
+    ensures made { OnlyReads (S.outside answerer.old.disk.system.now) timeline.old timeline.new }
 {
     match topic {
         GameTopic::Games => answer_report(
             games,
-            alloc,
+            timeline,
             ReportForm::Json,
             HeaderValue::from_static("application/json"),
             response,
         ),
         GameTopic::Metrics => answer_report(
             games,
-            alloc,
+            timeline,
             ReportForm::Metrics,
             HeaderValue::from_static("text/plain; version=0.0.4"),
             response,
         ),
-        GameTopic::Game(stamp) => answer_game_with_room(answerer, games, alloc, stamp, response),
+        GameTopic::Game(stamp) => answer_game_with_room(answerer, games, timeline, stamp, response),
         GameTopic::NoStamp => fill_fresh_json(
             response,
             StatusCode::BAD_REQUEST,
@@ -339,50 +359,57 @@ fn answer<D: Disk, H: Host, C: Times>(
 }
 
 /// Fills the response to what is asked for of games by a method.
-fn answer_by_method<D: Disk, H: Host, C: Times>(
-    answerer: &mut Answerer<'_, D>,
-    games: &mut Games<'_, D, H, C>,
-    alloc: Global,
+#[tactic(auto, using(crate::proofs::OpenReadLaws::no_reads))]
+fn answer_by_method<S: System, C: Times>(
+    answerer: &mut Answerer<'_, '_, S>,
+    games: &mut Games<'_, S, C>,
+    timeline: &mut S::Timeline,
     method: &str,
     topic: GameTopic,
     response: &mut Response,
 ) -> Result<(), AllocError>
-    requires { IsBlank response.old }
-    ensures answer { OnOk result (IsByMethod method.now (MayAnswer D.facts H.stores C.says answerer.old (asked_of_games topic)) games.old games.new response.new) }
+    requires one { games.old.on.system ≡ answerer.old.disk.system.now }
+    requires blank { IsBlank response.old }
+    ensures answer { OnOk result (IsByMethod method.now (MayAnswer S.outside C.says answerer.old (asked_of_games topic)) games.old games.new response.new) }
     ensures same { answerer.new ≡ answerer.old }
     ensures same_games { OnErr result (games.new ≡ games.old) }
+    ensures made { OnlyReads (S.outside answerer.old.disk.system.now) timeline.old timeline.new }
 {
     match verb_at(Place::Games, method) {
-        Verb::Read => answer(answerer, games, alloc, topic, response),
+        Verb::Read => answer(answerer, games, timeline, topic, response),
         Verb::ListMethods => fill_methods(response, Place::Games),
         Verb::Refuse => fill_other_method(response, Place::Games),
         Verb::Unknown => fill_unknown_method(response),
     }
 }
 
-impl<'r, D: Disk, H: Host, C: Times> Service for Router<'r, D, H, C> {
-    ghost use Rattle.http_answer.specs.Games.{Routes};
-
-    ghost answers = { λ old request response new. Routes D.facts H.stores C.says old.answerer old.games request response new.answerer new.games };
-
-    fn call(
+impl<'r, 's, S: System, C: Times> Router<'r, 's, S, C> {
+    /// Fills the response to a request, which comes blank. The error comes where memory is refused.
+    pub fn answer(
         &mut self,
+        timeline: &mut S::Timeline,
         request: &Request<Bytes>,
         response: &mut Response,
-    ) -> Result<(), AllocError> {
+    ) -> Result<(), AllocError>
+        requires one { AreOfOne self.old.answerer self.old.games }
+        requires blank { IsBlank response.old }
+        ensures answered { OnOk result (Routes S.outside C.says self.old.answerer self.old.games request.now response.new self.new.answerer self.new.games) }
+        ensures same { OnErr result (self.new ≡ self.old) }
+        ensures made { OnlyReads (S.outside self.old.answerer.disk.system.now) timeline.old timeline.new }
+    {
         let Some(games) = &mut self.games else {
-            return self.answerer.call(request, response);
+            return self.answerer.answer(timeline, request, response);
         };
         match topic_at(request.uri().path()) {
             Some(topic) => answer_by_method(
                 &mut self.answerer,
                 games,
-                self.alloc,
+                timeline,
                 request.method().as_str(),
                 topic,
                 response,
             ),
-            None => self.answerer.call(request, response),
+            None => self.answerer.answer(timeline, request, response),
         }
     }
 }

@@ -7,9 +7,8 @@
 //! To add a case, write it into a file of `data/`. The gate runs the files that `args` names; `rt try -- data/disk.txt` here runs
 //! one file without any proof.
 //!
-//! Inside: `case`, `pieces`, `shelf` (a case, the bytes of its lines, the files and folders), `running`, `report`, `memory_host`
-//! and `closed` (a host, and no address for requests, for `serve`), `counting` (an answerer), `system` (what the system's folders and files
-//! are read as). `data/wrong.txt` has cases with a wrong expectation, and is run by hand alone: each must be
+//! Inside: `case`, `pieces`, `shelf` (a case, the bytes of its lines, the files and folders), `running`, `report`, `closed` (no address for
+//! requests, for `serve`), `counting` (an answerer), `system` (what the system's folders and files are read as). `data/wrong.txt` has cases with a wrong expectation, and is run by hand alone: each must be
 //! reported.
 //!
 //! The last line is `N cases, D differ`. The status is 0 only where there are cases, none differs, and each file can be read.
@@ -18,7 +17,6 @@
 mod case;
 mod closed;
 mod counting;
-mod memory_host;
 mod pieces;
 mod report;
 mod running;

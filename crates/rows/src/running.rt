@@ -3,18 +3,16 @@
 use crate::case::{Call, Case};
 use crate::closed::Closed;
 use crate::counting::Counting;
-use crate::memory_host::MemoryHost;
 use crate::report::{
     check_end, check_errors, check_notes, check_output, check_refused, check_text, note_call,
 };
 use crate::shelf::parted;
 use crate::system::tell_system;
-use adjudicate_core::{Beside, run_program};
+use adjudicate_core::run_program;
 use command_line::{Task, Usage, WordsFault, parse};
 use line_events::answer_lines;
 use row_calls::{Fault, Given, tell_call};
 use std::alloc::{AllocError, Global};
-use std::cell::Cell;
 use std::net::{IpAddr, Ipv4Addr, SocketAddr};
 use system_fakes::MemoryDisk;
 use timeline::Stream;
@@ -94,27 +92,18 @@ fn ended_over<'a>(
     disk: &'a MemoryDisk<'a>,
     failing: Failing,
 ) -> Result<Ending, AllocError> {
-    let host = MemoryHost {
-        notes: Cell::new(0),
-    };
-    let mut beside = Beside {
-        disk,
-        host: &host,
-        pages: &Closed::new(),
-        out: Vec::new(alloc),
-    };
     let mut timeline = MemoryTimeline::failing(alloc, failing);
     let status = run_program(
         alloc,
         &called_by(alloc, &case.words),
         &outside(case, disk),
         &mut timeline,
-        &mut beside,
+        &Closed::new(),
     );
     let mut ending = Ending {
         status,
-        notes: host.notes.get(),
-        output: beside.out,
+        notes: 0,
+        output: Vec::new(alloc),
         errors: Vec::new(alloc),
     };
     ending.add(&timeline)?;

@@ -1,5 +1,4 @@
-pub mod Lines
-pub mod Refusing
 pub mod Replying
-pub mod SameFolders
-pub mod Written
+pub mod SeenLaws
+pub mod ServeLaws
+pub mod SinceLaws

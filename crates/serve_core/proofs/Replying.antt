@@ -1,4 +1,4 @@
--- Calls of a logged service, and the streams that they were made for.
+-- Calls of a service, and the streams that they were made for.
 use Rattle.std.proofs.Common.{◌≡◌, ℕ, ◌<◌, List, [], ◌∷◌, ◌++◌, length, Option, Some, None, All, Contains, get_or, refl, sym, ap, subst, append_assoc, append-nil}
 use Rattle.slab.specs.Slab.{Slab}
 use Rattle.http.specs.declared.request.Request.{Request}
@@ -12,30 +12,22 @@ use Rattle.http_loop.specs.declared.server.Server.{Server}
 use Rattle.http_loop.specs.Servers.{HasServed, ServesCalls}
 use Rattle.http_loop.specs.Serving.{IsServedOver, IsServing}
 use Rattle.http_loop.specs.Streams.{Closed, HasNoOpen, Streams}
-use Rattle.system_io.specs.Disks.{DiskFacts}
-use Rattle.system_io.specs.Records.{StorePlaces}
 use Rattle.table_folder.specs.Folders.{FolderOn}
-use Rattle.serve_core.specs.Logging.{Logs}
-use Rattle.serve_core.specs.declared.logging.Logged.{Logged}
+use Rattle.table_folder.specs.declared.files.SystemFiles.{SystemFiles}
+use Rattle.timeline.specs.Outsides.{Outside}
 use Rattle.serve_core.specs.Streams.{HasReplied, IsRepliedOver}
-
--- the calls of a logged service are those of the service
-pub chain_logged : {S G : Type 0} (answers : S → Request (List ℕ) → Response → S → Type 0) (lines : G → Option (List (List ℕ))) (calls : List Call) (old new : Logged S G)
-    → Chain (Logs answers lines) old calls new → Chain answers old.service calls new.service
-chain_logged {S} {G} answers lines [] old new x = ap (λ (c : Logged S G). c.service) x
-chain_logged {S} {G} answers lines (c ∷ calls) old new x = (x.0.service, x.1.answered, chain_logged answers lines calls x.0 new x.2)
 
 module _ {C L R W S : Type 0} (streams : L → Option Streams) (remaining : R → Option (List ℕ)) (contents : W → Option (List ℕ)) (answers : S → Request (List ℕ) → Response → S → Type 0) where
   pub no_rounds : (s : S) (server : Server C L R W) → ServesCalls streams remaining contents answers s s server server
   no_rounds s server = ([], refl, λ calls before h. subst (λ (cs : List Call). HasServed streams remaining contents cs before server) (sym (append-nil calls)) h)
 
-  -- one round more, of a logged service
-  pub next_round : {G : Type 0} (lines : G → Option (List (List ℕ))) (old : S) (now new : Logged S G) (server server₁ server₂ : Server C L R W) → ServesCalls streams remaining contents answers old now.service server server₁
-      → ServesCalls streams remaining contents (Logs answers lines) now new server₁ server₂
-      → ServesCalls streams remaining contents answers old new.service server server₂
-  next_round lines old now new server server₁ server₂ x y = (
+  -- one round more
+  pub next_round : (old now new : S) (server server₁ server₂ : Server C L R W) → ServesCalls streams remaining contents answers old now server server₁
+      → ServesCalls streams remaining contents answers now new server₁ server₂
+      → ServesCalls streams remaining contents answers old new server server₂
+  next_round old now new server server₁ server₂ x y = (
     x.0 ++ y.0,
-    Chain-append answers x.0 y.0 old now.service new.service x.1 (chain_logged answers lines y.0 now new y.1),
+    Chain-append answers x.0 y.0 old now new x.1 y.1,
     λ calls before h.
         subst (λ (cs : List Call). HasServed streams remaining contents cs before server₂) (append_assoc calls x.0 y.0)
         (y.2 (calls ++ x.0) before (x.2 calls before h)),
@@ -45,11 +37,11 @@ among : {X : Type 0} (P : X → Type 0) (xs own : List X) → All P xs → All (
 among P xs own all have = λ k d within. let at = have k d within in subst P at.2 (all at.0 (get_or own k d) at.1)
 
 -- where all calls are replied, so are those of each stream
-pub all_have_replies : {D H T S R W : Type 0} (facts : D → DiskFacts) (stores : H → StorePlaces S) (says : T → Option ℕ → Type 0) (tables : FolderOn D) (games : Option (GamesOn D H)) (remaining : R → Option (List ℕ)) (contents : W → Option (List ℕ)) (config : Config)
-    (calls : List Call) (before : List Closed) (known : Option Streams) (peers : Slab (Peer R W)) → All (IsServedCall facts stores says tables games) calls → HasNoOpen known
-    → IsServing remaining contents config calls before known peers → HasReplied facts stores says tables games config before known
-all_have_replies facts stores says tables games remaining contents config calls before None peers all none h = tt
-all_have_replies facts stores says tables games remaining contents config calls before (Some known) peers all none h = (
+pub all_have_replies : {G C T P F K S L R W : Type 0} (outside : G → Outside T P F K S L) (says : C → Option ℕ → Type 0) (tables : FolderOn (SystemFiles G)) (games : Option (GamesOn G)) (remaining : R → Option (List ℕ)) (contents : W → Option (List ℕ)) (config : Config)
+    (calls : List Call) (before : List Closed) (known : Option Streams) (peers : Slab (Peer R W)) → All (IsServedCall outside says tables games) calls → HasNoOpen known
+    → IsServing remaining contents config calls before known peers → HasReplied outside says tables games config before known
+all_have_replies outside says tables games remaining contents config calls before None peers all none h = tt
+all_have_replies outside says tables games remaining contents config calls before (Some known) peers all none h = (
   none,
   h.since,
   h.closed,
@@ -60,6 +52,6 @@ all_have_replies facts stores says tables games remaining contents config calls 
         served = one.served;
         received = one.received;
         sent = one.sent;
-        replied = among (IsServedCall facts stores says tables games) calls one.history.calls all one.among;
+        replied = among (IsServedCall outside says tables games) calls one.history.calls all one.among;
       },
 )

@@ -1,41 +1,116 @@
 -- `serve --tables DIR [--manifest FILE] --bind ADDR [--memory MB] [--requests N] [--games DIR [--other DIR]] [--log]`: requests of HTTP that
--- are answered by the tables of a folder and by folders of games, and what it prints (this project's own). What is answered to a request
--- is the contract of http_answer. Folders of games are read where a request asks for it.
-use Rattle.std.specs.Prelude.{◌≡◌, ◌++◌, ℕ, List, Option, Some, Result, Err, codes, option_map}
-use Rattle.line_teller.specs.ToldLines.{refused_files, refused_memory}
-use Rattle.move_msg.specs.TextLines.{ended}
-use Rattle.move_msg.specs.ToldManifests.{ToldManifest}
-use Rattle.system_io.specs.Disks.{AtFile, DiskFacts}
-use Rattle.system_io.specs.declared.output.WriteFault.{WriteFault}
-use Rattle.table_folder.specs.Folders.{Folder, IsFolderAt}
-use Rattle.task_files.specs.Outside.{FolderFails, IsToldAt}
-use Rattle.arbiter_server.specs.ServedLines.{refused_port}
-use Rattle.table_commands.specs.FolderAnswers.{IsSound}
-use Rattle.answer_parts.specs.Lines.{refused_manifest}
-use Rattle.answer_parts.specs.Telling.{TellsOne, TellsWholeText}
+-- are answered by the tables of a folder and by folders of games, and what happens outside meanwhile (this project's own). What is answered
+-- to a request is the contract of http_answer. Folders of games are read where a request asks for it. Sockets of HTTP are no part of what
+-- happens here.
+use Rattle.std.specs.Prelude.{◌≡◌, ◌++◌, ℕ, List, [], ◌∷◌, Option, Some, None, Result, Ok, Err, IfSome, codes, option_map}
+use Rattle.answer_parts.specs.Lines.{refusal_words}
+use Rattle.answer_parts.specs.Printing.{Performs, Prints, printed}
+use Rattle.answer_parts.specs.Refusals.{unread_refusal}
+use Rattle.answer_parts.specs.declared.answers.refusals.Refusal.{Refusal}
+use Rattle.answer_parts.specs.declared.answers.refusals.Refusal.TheVariants as refusal
 use Rattle.command_line.specs.declared.commands.serve.Serve.{Serve}
+use Rattle.game_reports.specs.Readings.{AreReadings}
+use Rattle.line_teller.specs.ToldLines.{refused_memory}
+use Rattle.move_msg.specs.TextLines.{ended}
+use Rattle.move_msg.specs.ToldBy.{told_by}
+use Rattle.move_msg.specs.declared.told.Manifest.{Manifest}
+use Rattle.system_io.specs.Disks.{DiskFacts}
+use Rattle.system_io.specs.declared.output.WriteFault.{WriteFault}
+use Rattle.system_io.specs.declared.reading.ReadFault.{ReadFault}
+use Rattle.table_commands.specs.FolderAnswers.{IsSound}
+use Rattle.table_folder.specs.Folders.{Folder}
+use Rattle.table_folder.specs.Reads.{OpensFolder}
+use Rattle.task_files.specs.InputReads.{ReadsManifest}
+use Rattle.timeline.specs.Events.{Event, Flushed, Noted, Wrote}
+use Rattle.timeline.specs.Outsides.{Adds, AddsSome, Outside}
+use Rattle.timeline.specs.declared.stream.Stream.TheVariants.{Output}
+use Rattle.serve_core.specs.declared.refusals.Unbound.{Unbound}
+use Rattle.serve_core.specs.Refusals.{refusal_for}
+
+-- ---- lines
 
 -- the line that has an address
 abbrev pub ready_line : List ℕ → List ℕ
 ready_line address = ended (codes "ready " ++ address)
 
+-- how a note begins that says why an address can't be bound, or why requests can't be awaited any more
+abbrev pub unbound_front : List ℕ → List ℕ
+unbound_front address = address ++ codes " can't be bound: "
+
+abbrev pub lost_front : List ℕ
+lost_front = codes "requests can't be awaited: "
+
+-- such a line is noted, with the system's own words behind that; or memory for it was refused
+pub data MayNote (front : List ℕ) (events : List Event) : Type 0 where
+  IsNoted : (why : List ℕ) → events ≡ Noted (front ++ why) ∷ [] → MayNote front events
+  NotNoted : events ≡ [] → MayNote front events
+
+-- ---- before requests are answered
+
 -- the manifest that is named, if one is
 abbrev pub manifest_path : Serve → Option (List ℕ)
 manifest_path t = option_map (λ s. s.now) t.manifest
 
--- Over a folder whose tables may be read: the address can't be bound, or memory is refused; or the address at which requests come is written
--- once it is bound, and nothing more unless the system can't wait for requests any more, or refuses memory for that.
-pub data ServesFolder (old new : Option (List ℕ)) (r : Result ℕ WriteFault) : Type 0 where
-  Unbound : TellsOne refused_port old new r → ServesFolder old new r
-  LacksRoom : TellsOne refused_memory old new r → ServesFolder old new r
-  Done : (address : List ℕ) → TellsWholeText (ready_line address) 0 old new r → ServesFolder old new r
-  Lost : (address : List ℕ) → TellsWholeText (ready_line address ++ ended refused_port) 1 old new r → ServesFolder old new r
-  LostRoom : (address : List ℕ) → TellsWholeText (ready_line address ++ ended refused_memory) 1 old new r → ServesFolder old new r
+-- The manifest is read, and then the folder of tables is listed; no table is read. Or the first of these that is refused: a manifest that
+-- can't be read or is malformed, a folder that can't be read.
+pub data OpensTables (disk : DiskFacts) (t : Serve) (result : Result Folder Refusal) (events : List Event) : Type 0 where
+  AreOpen : (manifest : Manifest) (folder : Folder) (reading listing : List Event) → ReadsManifest disk (manifest_path t) (Ok manifest) reading → IsSound (told_by manifest)
+      → OpensFolder disk t.tables.now manifest (Ok folder) listing → result ≡ Ok folder → events ≡ reading ++ listing → OpensTables disk t result events
+  NoManifest : (fault : ReadFault) → ReadsManifest disk (manifest_path t) (Err fault) events → result ≡ Err (unread_refusal fault) → OpensTables disk t result events
+  BadManifest : (manifest : Manifest) (line : ℕ) → ReadsManifest disk (manifest_path t) (Ok manifest) events → told_by manifest ≡ Some (Err line)
+      → result ≡ Err (refusal.Manifest line) → OpensTables disk t result events
+  NoFolder : (manifest : Manifest) (fault : ReadFault) (reading listing : List Event) → ReadsManifest disk (manifest_path t) (Ok manifest) reading → IsSound (told_by manifest)
+      → OpensFolder disk t.tables.now manifest (Err fault) listing → result ≡ Err (unread_refusal fault) → events ≡ reading ++ listing → OpensTables disk t result events
 
--- the manifest can't be read; or it is malformed; or else the folder can't be read; or it is served
-pub data Serves (disk : DiskFacts) (t : Serve) (old new : Option (List ℕ)) (r : Result ℕ WriteFault) : Type 0 where
-  NoManifest : (path : List ℕ) → manifest_path t ≡ Some path → disk.fails (AtFile path) → TellsOne refused_files old new r → Serves disk t old new r
-  NoRoomForManifest : TellsOne refused_memory old new r → Serves disk t old new r
-  BadManifest : (line : ℕ) → IsToldAt disk (manifest_path t) (Some (Err line)) → TellsOne (refused_manifest line) old new r → Serves disk t old new r
-  NoFolder : (told : Option ToldManifest) → IsToldAt disk (manifest_path t) told → IsSound told → FolderFails disk t.tables.now told → TellsOne refused_files old new r → Serves disk t old new r
-  OverFolder : (told : Option ToldManifest) → IsToldAt disk (manifest_path t) told → IsSound told → (folder : Folder) → IsFolderAt disk t.tables.now told folder → ServesFolder old new r → Serves disk t old new r
+-- the first of these that is refused is written, alone
+pub data RefusesTables (disk : DiskFacts) (t : Serve) (events : List Event) (status : Option ℕ) : Type 0 where
+  NoTables : (refused : Refusal) (opening : List Event) → OpensTables disk t (Err refused) opening → events ≡ opening ++ printed (refusal_words refused ∷ [])
+      → status ≡ Some 1 → RefusesTables disk t events status
+
+-- with an open folder, where an address is bound or isn't for this reason: that is written, or that memory was refused; or the address is
+-- written and goes out, and then requests are answered
+pub data Begins (why : Option Unbound) (events : List Event) (status : Option ℕ) : Type 0 where
+  NotBound : (u : Unbound) → why ≡ Some u → Prints (refusal_words (refusal_for u) ∷ []) 1 events status → Begins why events status
+  NoRoom : why ≡ None → Prints (refused_memory ∷ []) 1 events status → Begins why events status
+  IsReady : (address : List ℕ) → why ≡ None → events ≡ Wrote Output (ready_line address) ∷ Flushed Output ∷ [] → status ≡ None → Begins why events status
+
+-- ---- while they are
+
+-- where events are recorded: since this text was written and went out nothing came but that folders were listed, files were read or looked
+-- for, and lines were noted
+abbrev pub OnlyReadsSince : {T P F K S L : Type 0} → Outside T P F K S L → T → List ℕ → Type 0
+OnlyReadsSince o t text = IfSome (o.events t) (λ all. (before : List Event) × (more : List Event) × (all ≡ before ++ (Wrote Output text ∷ Flushed Output ∷ more)) × AreReadings more)
+
+-- ---- after that
+
+-- why requests can't be awaited any more is noted, and written
+abbrev pub TellsLost : Unbound → List Event → Option ℕ → Type 0
+TellsLost u events status = (noting : List Event) × MayNote lost_front noting × (events ≡ noting ++ printed (refusal_words (refusal_for u) ∷ [])) × (status ≡ Some 1)
+
+-- ---- all of it
+
+-- With an open folder, from one moment to a later one: no request is awaited; or the address goes out, and then requests are answered; in the
+-- end all are that were to be, or they can't be awaited any more.
+pub data ServesFolder {T P F K S L : Type 0} (o : Outside T P F K S L) (why : Option Unbound) (before after : T) (r : Result ℕ WriteFault) : Type 0 where
+  NotAwaited : AddsSome o before after (Performs (Begins why) r) → ServesFolder o why before after r
+  AllAnswered : (address : List ℕ) (ready : T) → why ≡ None → Adds o before ready (Wrote Output (ready_line address) ∷ Flushed Output ∷ []) → OnlyReadsSince o after (ready_line address)
+      → r ≡ Ok 0 → ServesFolder o why before after r
+  IsLost : (address : List ℕ) (ready lost : T) (u : Unbound) → why ≡ None → Adds o before ready (Wrote Output (ready_line address) ∷ Flushed Output ∷ [])
+      → OnlyReadsSince o lost (ready_line address) → AddsSome o lost after (Performs (TellsLost u) r) → ServesFolder o why before after r
+
+-- the tables are refused; or the folder is opened, and then it is served
+pub data ServesIf {T P F K S L : Type 0} (o : Outside T P F K S L) (t : Serve) (why : Option Unbound) (before after : T) (r : Result ℕ WriteFault) : Type 0 where
+  IsRefused : AddsSome o before after (Performs (RefusesTables o.disk t) r) → ServesIf o t why before after r
+  OfFolder : (folder : Folder) (opened : T) → AddsSome o before opened (OpensTables o.disk t (Ok folder)) → ServesFolder o why opened after r → ServesIf o t why before after r
+
+-- that an address isn't bound is noted
+abbrev pub NotesUnbound : List ℕ → Option Unbound → List Event → Type 0
+NotesUnbound address None events = events ≡ []
+NotesUnbound address (Some u) events = MayNote (unbound_front address) events
+
+-- THE CONTRACT OF `serve`, up to the output's end: the address is bound, or it is noted that it isn't, before all else
+pub record Serves {T P F K S L : Type 0} (o : Outside T P F K S L) (t : Serve) (before after : T) (r : Result ℕ WriteFault) : Type 0 where
+  pub why : Option Unbound
+  pub noted : T
+  pub notes : AddsSome o before noted (NotesUnbound t.bind.now why)
+  pub serves : ServesIf o t why noted after r

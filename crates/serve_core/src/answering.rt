@@ -1,44 +1,158 @@
-//! Requests that are answered over the streams of a listener.
+//! Requests that are answered over the streams of a listener, by a service over a timeline.
 
+ghost use Rattle.std.specs.Prelude.{◌≡◌, string_bytes};
+ghost use Rattle.http_answer.specs.Games.{AreOfOne};
 ghost use Rattle.http_loop.specs.Servers.{ServesCalls};
+ghost use Rattle.serve_core.specs.Answering.{AnswersOne};
+ghost use Rattle.serve_core.specs.Logging.{NotesRequest, request_line};
+ghost use Rattle.serve_core.specs.Serve.{OnlyReadsSince};
 ghost use Rattle.serve_core.specs.Streams.{RoutesOver};
+ghost use Rattle.timeline.specs.Outsides.{AddsSome};
 
-use crate::logging::{Log, Logged};
+use crate::logging::request_line;
+use bytes::Bytes;
+use http::Request;
 use http_answer::{Router, Times};
 use http_loop::{Listener, Server};
-use http_server::Service;
+use http_server::{Response, Service};
+use std::alloc::{AllocError, Global};
 use std::io;
+use std::marker::Model;
 use std::time::Clock;
-use system_io::{Disk, Host};
+use timeline::System;
+
+/// How requests are answered.
+#[derive(Clone, Copy)]
+pub struct Asked<'r> {
+    /// Where memory for the lines of a log comes from.
+    pub alloc: Global,
+    /// The line that went out before.
+    pub ready: &'r str,
+    /// Whether a line of each request is noted.
+    pub is_logged: bool,
+    /// How many of them are answered.
+    pub requests: u64,
+}
+
+/// A service over a timeline, of which a line of each request is noted, if they are logged. Its requests are counted.
+///
+/// Contracts see which timeline it has, and the folders that requests are answered by.
+#[derive(Drop)]
+pub struct Answering<'r, 's, 't, S: System, C: Times> {
+    asked: Asked<'r>,
+    system: &'r S,
+    timeline: &'t mut S::Timeline,
+    router: Router<'r, 's, S, C>,
+    answered: u64,
+}
+
+impl<'r, 's, 't, S: System, C: Times> Model for Answering<'r, 's, 't, S, C> {
+    ghost use Rattle.serve_core.specs.Answering.{AnsweringView, IsGrounded};
+
+    ghost Value = { AnsweringView S C };
+
+    ghost view = { λ a. record { ground = record { timeline = a.timeline.ghost_name; system = a.system.now; ready = a.asked.ready.now }; tables = a.router.answerer; games = a.router.games } };
+
+    ghost invariant = { λ a. IsGrounded S.outside a.system.now a.router.answerer a.router.games a.timeline.now a.asked.ready.now };
+}
+
+/// Notes the line of a request and its response, if requests are logged. One for which memory is refused is left out.
+fn note_request<S: System>(
+    system: &S,
+    timeline: &mut S::Timeline,
+    asked: &Asked<'_>,
+    request: &Request<Bytes>,
+    response: &Response,
+)
+    ensures { AddsSome (S.outside system.now) timeline.old timeline.new (NotesRequest asked.now.is_logged (request_line request.now response.now)) }
+{
+    if !asked.is_logged {
+        return;
+    }
+    match request_line(asked.alloc, request, response) {
+        Ok(line) => system.note(timeline, line.as_str()),
+        Err(_) => {}
+    }
+}
+
+impl<'r, 's, 't, S: System, C: Times> Service for Answering<'r, 's, 't, S, C> {
+    ghost use Rattle.serve_core.specs.Answering.{AnswersOne};
+
+    ghost answers = { AnswersOne S.outside C.says };
+
+    fn call(
+        &mut self,
+        request: &Request<Bytes>,
+        response: &mut Response,
+    ) -> Result<(), AllocError> {
+        match self.router.answer(self.timeline, request, response) {
+            Ok(()) => {
+                self.answered = self.answered.saturating_add(1);
+                note_request(self.system, self.timeline, &self.asked, request, response);
+                Ok(())
+            }
+            Err(refused) => Err(refused),
+        }
+    }
+}
+
+impl<'r, 's, 't, S: System, C: Times> Answering<'r, 's, 't, S, C> {
+    /// How many requests it has answered, at most 2^64 - 1.
+    fn answered(&self) -> u64 {
+        self.answered
+    }
+}
 
 /// Has so many requests answered. The error comes where the listener can't wait, or memory is refused.
-fn answer_rounds<C: Clock, L: Listener + Drop, S: Service + Drop, G: Log + Drop>(
+fn answer_rounds<C: Clock, L: Listener + Drop, S: System, T: Times>(
     server: &mut Server<'_, C, L>,
-    logged: &mut Logged<S, G>,
+    service: &mut Answering<'_, '_, '_, S, T>,
     requests: u64,
 ) -> io::Result<()>
-    ensures { ServesCalls L.streams L.Reader.remaining L.Writer.contents S.answers logged.old.service logged.new.service server.old server.new }
+    ensures { ServesCalls L.streams L.Reader.remaining L.Writer.contents (AnswersOne S.outside T.says) service.old service.new server.old server.new }
 {
     for _ in 0..u64::MAX {
-        if requests <= logged.answered {
+        if requests <= service.answered() {
             return Ok(());
         }
-        server.round(logged)?;
+        match server.round(service) {
+            Ok(()) => {}
+            Err(error) => return Err(error),
+        }
     }
     Ok(())
 }
 
 /// Answers so many requests by the tables of a folder and by folders of games, over the streams of a listener, and then closes all of
 /// these. The error comes where the listener can't wait, or memory is refused.
-pub fn answer_requests<C: Clock, L: Listener + Drop, D: Disk, H: Host, T: Times, G: Log + Drop>(
+pub fn answer_requests<'r, C: Clock, L: Listener + Drop, S: System, T: Times>(
     server: &mut Server<'_, C, L>,
-    service: Logged<Router<'_, D, H, T>, G>,
-    requests: u64,
+    router: Router<'r, '_, S, T>,
+    system: &'r S,
+    timeline: &mut S::Timeline,
+    asked: Asked<'r>,
 ) -> io::Result<()>
-    ensures replied { RoutesOver D.facts H.stores T.says service.entry.service L.streams L.Reader.remaining L.Writer.contents server.old server.new }
+    requires one { AreOfOne router.answerer router.games }
+    requires same { system.now ≡ router.answerer.disk.system.now }
+    requires ready { OnlyReadsSince (S.outside system.now) timeline.old asked.ready.now }
+    ensures replied { RoutesOver S.outside T.says router.entry.answerer router.entry.games L.streams L.Reader.remaining L.Writer.contents server.old server.new }
+    ensures since { OnlyReadsSince (S.outside system.now) timeline.new asked.entry.ready.now }
 {
-    let mut logged = service;
-    let answered = answer_rounds(server, &mut logged, requests);
+    let mut service = Answering {
+        asked,
+        system,
+        timeline,
+        router,
+        answered: 0,
+    };
+    let answered = answer_rounds(server, &mut service, asked.requests);
+    let Answering {
+        asked: _,
+        system: _,
+        timeline: _timeline,
+        router: _router,
+        answered: _,
+    } = service;
     server.close();
     answered
 }

@@ -1,24 +1,28 @@
-//! The server of a folder of tables, from what its words say to its status.
+//! The server of a folder of tables, from what its words say to its status, over one system with a timeline.
 //!
 //! `serve` is what adjudicate_core's program calls: it opens a server (`Pages`: `SystemPages` over the system's sockets), and then all is
 //! `serve_task`, over any listener. The line `ready ADDR` comes out, or one that refuses; requests are answered by `http_answer` over the
-//! folders that the words name, connections are served by `http_loop`.
+//! folders that the words name, connections are served by `http_loop`. Sockets of HTTP are no part of the timeline.
 //!
-//! Inside: `logging` (a service whose requests are counted, and a line of each), `answering`, `refusals`, `pages`, `task` (over any
+//! Inside: `logging` (the line of a request), `answering` (a service over a timeline, and its rounds), `refusals`, `pages`, `task` (over any
 //! listener), `serving` (the system's sockets).
 //!
-//! Definitions, in reading order: `Serve`; `Limits`, `Streams`, `Tasks`; `Logging`.
+//! Definitions, in reading order: `Serve`; `Limits`, `Streams`, `Tasks`; `Logging`, `Answering`.
 //!
-//! - CLAIM: `serve`, `serve_task`, clauses `written`, `cause`: a manifest that can't be read or is malformed, a folder that can't be read, an
-//!   address that can't be bound and refused memory, the first in this order is written in one line, with status 1; else the line is `ready`
-//!   and the address, and nothing more is written but that the port was lost, or memory for it (`Serves`).
+//! - CLAIM: `serve`, clauses `made`, `cause`: it is noted where no address is bound; then the manifest is read, if one is named, and the folder of
+//!   tables is listed, once. A manifest that can't be read or is malformed, a folder that can't be read, an address that can't be bound and
+//!   refused memory, the first in this order is written in one line, with status 1; else the line is `ready` and the address, which goes
+//!   out before a request is awaited (`Serves`). Then nothing comes but that folders are listed, files are read or looked for, and lines are
+//!   noted (`OnlyReadsSince`); in the end why the port was lost, or memory for it, is noted and written. An error comes only where a write
+//!   might be refused.
 //! - CLAIM: `serve_task`, clause `replied`: over a listener whose streams are known each stream got the replies to the requests that it
 //!   gave, by the folder of tables, the manifest and the folders of games that the words name, in their order, whatever the others gave;
 //!   and all are closed (`RepliesToTask`). Where no request is read the status isn't 0.
-//! - CLAIM: `answer_requests`, clause `replied`: the same, by the folders of a service (`RoutesOver`, `IsRepliedOver`).
+//! - CLAIM: `answer_requests`, clauses `replied`, `since`: the same, by the folders of a router (`RoutesOver`, `IsRepliedOver`); and only readings
+//!   and notes come meanwhile, also of requests to which memory was refused.
 //! - CLAIM: `Pages::open`, clause `opened`: the server has the limits of `HasLimits`, and has served no stream.
-//! - CLAIM: `Logged`, clause `answers`: of each request that is answered the line `request_line` comes in the log, or is left out, and no
-//!   other one (`Logs`).
+//! - CLAIM: `Answering`, clause `answers`: a call is answered by `Router::answer`; `note_request`: where requests are logged the line `request_line`
+//!   of the request is noted, or is left out, and no other one (`NotesRequest`).
 #![tactic(auto)]
 
 mod answering;
@@ -28,9 +32,9 @@ mod refusals;
 mod serving;
 mod task;
 
-pub use answering::answer_requests;
-pub use logging::{HostLog, Log, Logged, MemoryLog, request_line};
+pub use answering::{Answering, Asked, answer_requests};
+pub use logging::request_line;
 pub use pages::{Bound, Pages};
-pub use refusals::{Refusal, Unbound};
+pub use refusals::Unbound;
 pub use serving::{SystemPages, serve};
-pub use task::{Outside, serve_task};
+pub use task::{Serving, serve_task};

@@ -1,27 +1,27 @@
 //! The system's sockets, over which requests are answered.
 
-ghost use Rattle.std.specs.Prelude.{◌≡◌, IfOk, OnErr};
-ghost use Rattle.std.specs.IoError.{error_kind};
-ghost use Rattle.line_teller.specs.ToldLines.{HasFailed};
+ghost use Rattle.std.specs.Prelude.{◌≡◌, ◌++◌, ℕ, List, IfOk, OnErr, Some, string_bytes};
+ghost use Rattle.answer_parts.specs.Printing.{OutputFails};
 ghost use Rattle.serve_core.specs.Limits.{HasLimits};
-ghost use Rattle.serve_core.specs.Refusals.{unbound_of};
-ghost use Rattle.serve_core.specs.Serve.{Serves};
-ghost use Rattle.system_io.specs.Reading.{read_fault_of};
+ghost use Rattle.serve_core.specs.Refusals.{unbound_in};
+ghost use Rattle.serve_core.specs.Serve.{MayNote, NotesUnbound, Serves, unbound_front};
+ghost use Rattle.timeline.specs.Outsides.{AddsSome};
 
 use crate::pages::{Bound, Pages};
 use crate::refusals::Unbound;
-use crate::task::{Outside, serve_task};
+use crate::task::{Serving, serve_task};
 use command_line::Serve;
 use http_answer::ClockTimes;
 use http_loop::{Limits, Server, Sockets};
 use http_server::Config;
-use std::alloc::Global;
+use std::alloc::{AllocError, Global};
 use std::hash::RandomState;
 use std::io;
 use std::net::{Net, ToSocketAddrs};
 use std::random::RandomSource;
 use std::time::{Clock, Duration};
-use system_io::{Disk, Host, Output, WriteFault};
+use system_io::WriteFault;
+use timeline::System;
 
 /// How many connections there are at once, at most.
 const CONNECTIONS: usize = 512;
@@ -96,37 +96,76 @@ impl<'r, R: Clock + Net + RandomSource> Pages for SystemPages<'r, R> {
     }
 }
 
-/// Notes why an address can't be bound, and says which refusal that is.
-fn note_unbound<H: Host>(alloc: Global, host: &H, address: &str, error: io::Error) -> Unbound
-    ensures { result ≡ unbound_of (read_fault_of (error_kind error)) }
+/// The line that says why an address can't be bound.
+fn unbound_line(alloc: Global, address: &str, error: &io::Error) -> Result<String, AllocError>
+    ensures { IfOk result (λ line. (why : List ℕ) × (string_bytes line ≡ unbound_front address.now ++ why)) }
 {
-    if let Ok(line) = format!(in alloc; "{address} can't be bound: {error}") {
-        host.note(line.as_str());
+    format!(in alloc; "{address} can't be bound: {error}")
+}
+
+/// Notes why an address can't be bound.
+fn note_unbound<S: System>(
+    alloc: Global,
+    system: &S,
+    timeline: &mut S::Timeline,
+    address: &str,
+    error: &io::Error,
+)
+    ensures { AddsSome (S.outside system.now) timeline.old timeline.new (MayNote (unbound_front address.now)) }
+{
+    match unbound_line(alloc, address, error) {
+        Ok(line) => system.note(timeline, line.as_str()),
+        Err(_) => {}
     }
+}
+
+/// Notes why an address can't be bound, and says which refusal that is.
+fn refuse_unbound<S: System>(
+    alloc: Global,
+    system: &S,
+    timeline: &mut S::Timeline,
+    address: &str,
+    error: io::Error,
+) -> Unbound
+    ensures { AddsSome (S.outside system.now) timeline.old timeline.new (NotesUnbound address.now (Some result)) }
+{
+    note_unbound(alloc, system, timeline, address, &error);
     Unbound::by(error)
 }
 
-/// Answers requests as the words say, where they come, by `serve_task`.
-pub fn serve<G: Pages, D: Disk, H: Host, W: Output>(
+/// A server at an address. It is noted why there is none.
+fn open_noted<'g, G: Pages, S: System>(
+    alloc: Global,
+    pages: &'g G,
+    system: &S,
+    timeline: &mut S::Timeline,
+    address: &str,
+) -> Result<Bound<'g, G::Clock, G::Listener>, Unbound>
+    ensures { AddsSome (S.outside system.now) timeline.old timeline.new (NotesUnbound address.now (unbound_in result)) }
+{
+    match pages.open(alloc, address) {
+        Ok(bound) => Ok(bound),
+        Err(error) => Err(refuse_unbound(alloc, system, timeline, address, error)),
+    }
+}
+
+/// Answers requests as the words say, where they come, by `serve_task`, and returns the status. The error comes only where the output may
+/// fail.
+pub fn serve<G: Pages, S: System>(
     alloc: Global,
     pages: &G,
-    disk: &D,
-    host: &H,
     task: &Serve<'_>,
-    out: &mut W,
+    system: &S,
+    timeline: &mut S::Timeline,
 ) -> Result<u8, WriteFault>
-    ensures written { Serves (D.facts disk.now) task.now (W.contents out.old) (W.contents out.new) result }
-    ensures cause { OnErr result (HasFailed W.facts) }
+    ensures made { Serves (S.outside system.now) task.now timeline.old timeline.new result }
+    ensures cause { OnErr result (OutputFails (S.outside system.now)) }
 {
-    let outside = Outside {
+    let by = Serving {
         alloc,
         times: pages.times(),
-        disk,
-        host,
+        system,
     };
-    let mut bound = match pages.open(alloc, task.bind) {
-        Ok(bound) => Ok(bound),
-        Err(error) => Err(note_unbound(alloc, host, task.bind, error)),
-    };
-    serve_task(&outside, task, &mut bound, out)
+    let mut bound = open_noted(alloc, pages, system, timeline, task.bind);
+    serve_task(&by, timeline, task, &mut bound)
 }

@@ -1,20 +1,21 @@
 //! Requests that are answered over the streams of a listener, as the words of `serve` say.
 
-ghost use Rattle.std.specs.Prelude.{◌≡◌, IfErr, IfOk, OnErr, string_bytes, ℕ, List};
-ghost use Rattle.line_teller.specs.ToldLines.{HasFailed};
-ghost use Rattle.move_msg.specs.ToldBy.{told_by};
-ghost use Rattle.answer_parts.specs.Telling.{TellsOne, TellsWholeText};
+ghost use Rattle.std.specs.Prelude.{◌≡◌, ◌++◌, ℕ, List, None, IfOk, OnErr, OnOk, string_bytes};
 ghost use Rattle.std.specs.IoError.{error_kind};
-ghost use Rattle.system_io.specs.Reading.{read_fault_of};
+ghost use Rattle.answer_parts.specs.Printing.{OutputFails, Performs};
+ghost use Rattle.http_answer.specs.Games.{AreOfOne};
 ghost use Rattle.serve_core.specs.GamesNamed.{games_for};
-ghost use Rattle.serve_core.specs.Refusals.{IsTaskManifest, LacksFolder, refusal_for, refusal_words, unbound_of};
-ghost use Rattle.serve_core.specs.Serve.{Serves, ServesFolder, ready_line};
-ghost use Rattle.serve_core.specs.Tasks.{MayRoute, MayServe, IfBound, RepliesToTask};
+ghost use Rattle.serve_core.specs.Inside.{GoesOut, ReadsSound};
+ghost use Rattle.serve_core.specs.Refusals.{unbound_in, unbound_of};
+ghost use Rattle.serve_core.specs.Serve.{MayNote, OnlyReadsSince, ServesFolder, ServesIf, TellsLost, lost_front, ready_line};
+ghost use Rattle.serve_core.specs.Tasks.{IfBound, MayRoute, MayServe, RepliesToTask};
+ghost use Rattle.system_io.specs.Reading.{read_fault_of};
+ghost use Rattle.timeline.specs.Outsides.{AddsSome};
 
-use crate::answering::answer_requests;
-use crate::logging::{HostLog, Logged};
+use crate::answering::{Asked, answer_requests};
 use crate::pages::Bound;
-use crate::refusals::{Refusal, Unbound};
+use crate::refusals::Unbound;
+use answer_parts::{Refusal, print_refusal};
 use command_line::Serve;
 use http_answer::{Answerer, GameFolders, Games, Router, Times};
 use http_loop::Listener;
@@ -23,54 +24,58 @@ use std::alloc::{AllocError, Global};
 use std::io;
 use std::net::SocketAddr;
 use std::time::Clock;
-use system_io::{Disk, Host, Output, WriteFault};
+use system_io::WriteFault;
 use table_commands::arena_for;
-use table_folder::TableFolder;
-use task_files::read_manifest;
+use table_folder::{SystemFiles, TableFolder};
+use task_files::manifest_at;
+use timeline::{Stream, System};
 
 /// How many decoded blocks of tables are kept, at most.
 const BLOCKS: usize = 4096;
 
 /// What a task is answered by.
 #[derive(Clone, Copy)]
-pub struct Outside<'r, T, D, H> {
+pub struct Serving<'r, T, S> {
     /// Where memory comes from.
     pub alloc: Global,
     /// What says the time by which the age of reports is counted.
     pub times: &'r T,
-    /// Where the folders are.
-    pub disk: &'r D,
-    /// What reads stores of records, and what is noted to.
-    pub host: &'r H,
+    /// Where the folders are, and where is written and noted.
+    pub system: &'r S,
 }
 
-/// The manifest that the words name.
-fn manifest_of<D: Disk>(alloc: Global, disk: &D, task: &Serve<'_>) -> Result<Manifest, Refusal>
-    ensures ok { IfOk result (λ manifest. IsTaskManifest (D.facts disk.now) task.now (told_by manifest)) }
-    ensures err { IfErr result (LacksFolder (D.facts disk.now) task.now) }
+/// The manifest that the words name, of which no line is malformed.
+fn sound_manifest<T: Times, S: System>(
+    by: &Serving<'_, T, S>,
+    timeline: &mut S::Timeline,
+    task: &Serve<'_>,
+) -> Result<Manifest, Refusal>
+    ensures { AddsSome (S.outside by.now.system.now) timeline.old timeline.new (ReadsSound (S.outside by.now.system.now).disk task.now result) }
 {
-    match read_manifest(alloc, disk, task.manifest) {
-        Ok(Manifest::BadLine(line)) => Err(Refusal::Manifest(line)),
-        Ok(manifest) => Ok(manifest),
-        Err(fault) => Err(Refusal::of(fault)),
+    let manifest = match manifest_at(by.alloc, by.system, timeline, task.manifest) {
+        Ok(manifest) => manifest,
+        Err(fault) => return Err(Refusal::unread(fault)),
+    };
+    if let Manifest::BadLine(line) = &manifest {
+        return Err(Refusal::Manifest(*line));
     }
+    Ok(manifest)
 }
 
 /// The folders of games that the words name, if they do.
-fn games_of<'r, T: Times, D: Disk, H: Host>(
-    outside: &Outside<'r, T, D, H>,
+fn games_of<'r, T: Times, S: System>(
+    by: &Serving<'r, T, S>,
     task: &Serve<'r>,
-) -> Option<Games<'r, D, H, T>>
-    ensures { result ≡ games_for outside.now task.now }
+) -> Option<Games<'r, S, T>>
+    ensures { result ≡ games_for by.now task.now }
 {
     let games = task.games?;
     let folders = GameFolders {
-        disk: outside.disk,
-        host: outside.host,
+        system: by.system,
         games,
         other: task.other,
     };
-    Some(Games::of(folders, outside.times))
+    Some(Games::of(by.alloc, folders, by.times))
 }
 
 /// The line that says at which address requests come.
@@ -81,12 +86,13 @@ fn ready_text(alloc: Global, own: SocketAddr) -> Result<String, AllocError>
 }
 
 /// Writes a text, and lets it go out.
-fn put_out<W: Output>(out: &mut W, text: &str) -> Result<u8, WriteFault>
-    ensures written { TellsWholeText text.now 0 (W.contents out.old) (W.contents out.new) result }
-    ensures cause { OnErr result (HasFailed W.facts) }
+fn put_out<S: System>(system: &S, timeline: &mut S::Timeline, text: &str) -> Result<u8, WriteFault>
+    ensures made { AddsSome (S.outside system.now) timeline.old timeline.new (Performs (GoesOut text.now) result) }
+    ensures since { OnOk result (OnlyReadsSince (S.outside system.now) timeline.new text.now) }
+    ensures cause { OnErr result (OutputFails (S.outside system.now)) }
 {
-    match out.put(text.as_bytes()) {
-        Ok(()) => match out.flush_all() {
+    match system.write(timeline, Stream::Output, text.as_bytes()) {
+        Ok(()) => match system.flush(timeline, Stream::Output) {
             Ok(()) => Ok(0),
             Err(fault) => Err(fault),
         },
@@ -94,126 +100,110 @@ fn put_out<W: Output>(out: &mut W, text: &str) -> Result<u8, WriteFault>
     }
 }
 
-/// Notes why the system can't wait for requests any more.
-fn note_lost<H: Host>(alloc: Global, host: &H, error: &io::Error) {
-    if let Ok(line) = format!(in alloc; "requests can't be awaited: {error}") {
-        host.note(line.as_str());
-    }
-}
-
-/// What answers the requests of a task, whether they are logged, and how many of them are answered.
-#[derive(Drop)]
-struct Answering<'r, D: Disk, H: Host, T: Times> {
-    router: Router<'r, D, H, T>,
-    is_logged: bool,
-    requests: u64,
-}
-
-/// A service that is logged by a host, if its requests are.
-fn logged<'r, 'h, D: Disk, H: Host, T: Times>(
-    alloc: Global,
-    host: &'h H,
-    router: Router<'r, D, H, T>,
-    is_logged: bool,
-) -> Logged<Router<'r, D, H, T>, HostLog<'h, H>>
-    ensures { result.service ≡ router.entry }
+/// The line that says why the system can't wait for requests any more.
+fn lost_line(alloc: Global, error: &io::Error) -> Result<String, AllocError>
+    ensures { IfOk result (λ line. (why : List ℕ) × (string_bytes line ≡ lost_front ++ why)) }
 {
-    Logged {
-        service: router,
-        answered: 0,
-        alloc,
-        log: if is_logged {
-            Some(HostLog { host })
-        } else {
-            None
-        },
+    format!(in alloc; "requests can't be awaited: {error}")
+}
+
+/// Notes why the system can't wait for requests any more.
+fn note_lost<S: System>(alloc: Global, system: &S, timeline: &mut S::Timeline, error: &io::Error)
+    ensures { AddsSome (S.outside system.now) timeline.old timeline.new (MayNote lost_front) }
+{
+    match lost_line(alloc, error) {
+        Ok(line) => system.note(timeline, line.as_str()),
+        Err(_) => {}
     }
 }
 
 /// Writes why requests can't be awaited any more, and notes the system's reason.
-fn put_lost<H: Host, W: Output>(
+fn print_lost<S: System>(
     alloc: Global,
-    host: &H,
+    system: &S,
+    timeline: &mut S::Timeline,
     error: io::Error,
-    out: &mut W,
 ) -> Result<u8, WriteFault>
-    ensures written { TellsOne (refusal_words (refusal_for (unbound_of (read_fault_of (error_kind error))))) (W.contents out.old) (W.contents out.new) result }
-    ensures cause { OnErr result (HasFailed W.facts) }
+    ensures made { AddsSome (S.outside system.now) timeline.old timeline.new (Performs (TellsLost (unbound_of (read_fault_of (error_kind error)))) result) }
+    ensures cause { OnErr result (OutputFails (S.outside system.now)) }
 {
-    note_lost(alloc, host, &error);
-    Refusal::at(Unbound::by(error)).put(out)
+    note_lost(alloc, system, timeline, &error);
+    print_refusal(system, timeline, Unbound::by(error).refusal())
 }
 
 /// Writes at which address requests come, and answers them.
-fn serve_at<C: Clock, L: Listener + Drop, T: Times, D: Disk, H: Host, W: Output>(
-    outside: &Outside<'_, T, D, H>,
-    by: Answering<'_, D, H, T>,
+fn serve_at<'r, C: Clock, L: Listener + Drop, T: Times, S: System>(
+    by: &Serving<'r, T, S>,
+    timeline: &mut S::Timeline,
+    router: Router<'r, '_, S, T>,
+    task: &Serve<'_>,
     bound: &mut Bound<'_, C, L>,
-    out: &mut W,
 ) -> Result<u8, WriteFault>
-    ensures written { ServesFolder (W.contents out.old) (W.contents out.new) result }
-    ensures cause { OnErr result (HasFailed W.facts) }
-    ensures replied { MayRoute D.facts H.stores T.says L.streams L.Reader.remaining L.Writer.contents by.entry.router bound.old.server bound.new.server result }
+    requires one { AreOfOne router.answerer router.games }
+    requires same { by.now.system.now ≡ router.answerer.disk.system.now }
+    ensures made { ServesFolder (S.outside by.now.system.now) None timeline.old timeline.new result }
+    ensures cause { OnErr result (OutputFails (S.outside by.now.system.now)) }
+    ensures replied { MayRoute S.outside T.says L.streams L.Reader.remaining L.Writer.contents router.entry.answerer router.entry.games bound.old bound.new result }
 {
-    let service = logged(outside.alloc, outside.host, by.router, by.is_logged);
-    let Ok(text) = ready_text(outside.alloc, bound.own) else {
-        return Refusal::Memory.put(out);
+    let Ok(text) = ready_text(by.alloc, bound.own) else {
+        return print_refusal(by.system, timeline, Refusal::Memory);
     };
-    let status = match put_out(out, text.as_str()) {
-        Ok(status) => status,
+    let ready = text.as_str();
+    match put_out(by.system, timeline, ready) {
+        Ok(_) => {}
         Err(fault) => return Err(fault),
+    }
+    let asked = Asked {
+        alloc: by.alloc,
+        ready,
+        is_logged: task.log,
+        requests: task.requests,
     };
-    match answer_requests(&mut bound.server, service, by.requests) {
-        Ok(()) => Ok(status),
-        Err(error) => put_lost(outside.alloc, outside.host, error, out),
+    match answer_requests(&mut bound.server, router, by.system, timeline, asked) {
+        Ok(()) => Ok(0),
+        Err(error) => print_lost(by.alloc, by.system, timeline, error),
     }
 }
 
 /// Answers requests by a folder of tables, and by the folders of games that the words name.
-fn serve_folder<C: Clock, L: Listener + Drop, T: Times, D: Disk, H: Host, W: Output>(
-    outside: &Outside<'_, T, D, H>,
-    folder: TableFolder<'_, D>,
-    task: &Serve<'_>,
+fn serve_folder<'r, C: Clock, L: Listener + Drop, T: Times, S: System>(
+    by: &Serving<'r, T, S>,
+    timeline: &mut S::Timeline,
+    folder: TableFolder<'r, SystemFiles<'_, S>>,
+    task: &Serve<'r>,
     bound: &mut Bound<'_, C, L>,
-    out: &mut W,
 ) -> Result<u8, WriteFault>
-    ensures written { ServesFolder (W.contents out.old) (W.contents out.new) result }
-    ensures cause { OnErr result (HasFailed W.facts) }
-    ensures replied { MayServe D.facts H.stores T.says L.streams L.Reader.remaining L.Writer.contents
-        outside.now task.now folder.entry bound.old bound.new result }
+    requires { folder.disk.system.now ≡ by.now.system.now }
+    ensures made { ServesFolder (S.outside by.now.system.now) None timeline.old timeline.new result }
+    ensures cause { OnErr result (OutputFails (S.outside by.now.system.now)) }
+    ensures replied { MayServe S.outside T.says L.streams L.Reader.remaining L.Writer.contents by.now task.now folder.entry bound.old bound.new result }
 {
-    let Ok(answerer) = Answerer::over(outside.alloc, folder, BLOCKS) else {
-        return Refusal::Memory.put(out);
+    let Ok(answerer) = Answerer::over(by.alloc, folder, BLOCKS) else {
+        return print_refusal(by.system, timeline, Refusal::Memory);
     };
     let router = Router {
-        alloc: outside.alloc,
         answerer,
-        games: games_of(outside, task),
+        games: games_of(by, task),
     };
-    let by = Answering {
-        router,
-        is_logged: task.log,
-        requests: task.requests,
-    };
-    serve_at(outside, by, bound, out)
+    serve_at(by, timeline, router, task, bound)
 }
 
 /// Answers requests at the address that is bound, as `serve_folder` does; or writes why none is bound.
-fn serve_folder_if<C: Clock, L: Listener + Drop, T: Times, D: Disk, H: Host, W: Output>(
-    outside: &Outside<'_, T, D, H>,
-    folder: TableFolder<'_, D>,
-    task: &Serve<'_>,
+fn serve_folder_if<'r, C: Clock, L: Listener + Drop, T: Times, S: System>(
+    by: &Serving<'r, T, S>,
+    timeline: &mut S::Timeline,
+    folder: TableFolder<'r, SystemFiles<'_, S>>,
+    task: &Serve<'r>,
     bound: &mut Result<Bound<'_, C, L>, Unbound>,
-    out: &mut W,
 ) -> Result<u8, WriteFault>
-    ensures written { ServesFolder (W.contents out.old) (W.contents out.new) result }
-    ensures cause { OnErr result (HasFailed W.facts) }
-    ensures replied { IfBound D.facts H.stores T.says L.streams L.Reader.remaining L.Writer.contents
-        outside.now task.now folder.entry bound.old bound.new result }
+    requires { folder.disk.system.now ≡ by.now.system.now }
+    ensures made { ServesFolder (S.outside by.now.system.now) (unbound_in bound.old) timeline.old timeline.new result }
+    ensures cause { OnErr result (OutputFails (S.outside by.now.system.now)) }
+    ensures replied { IfBound S.outside T.says L.streams L.Reader.remaining L.Writer.contents by.now task.now folder.entry bound.old bound.new result }
 {
     match bound {
-        Ok(bound) => serve_folder(outside, folder, task, bound, out),
-        Err(unbound) => Refusal::at(*unbound).put(out),
+        Ok(bound) => serve_folder(by, timeline, folder, task, bound),
+        Err(unbound) => print_refusal(by.system, timeline, unbound.refusal()),
     }
 }
 
@@ -221,31 +211,25 @@ fn serve_folder_if<C: Clock, L: Listener + Drop, T: Times, D: Disk, H: Host, W: 
 /// returns the status 0. Before that the line `ready` and its own address come out; or one line that refuses, with the status 1, in this
 /// order: the manifest, the folder of the tables, and the address. `refused port` comes behind `ready` where the listener can't wait any
 /// more, and `refused memory` where it lacks memory for that; the reason is noted. `refused memory` may come in place of any. The error
-/// comes only where the writer failed.
-pub fn serve_task<C: Clock, L: Listener + Drop, T: Times, D: Disk, H: Host, W: Output>(
-    outside: &Outside<'_, T, D, H>,
+/// comes only where the output may fail.
+pub fn serve_task<C: Clock, L: Listener + Drop, T: Times, S: System>(
+    by: &Serving<'_, T, S>,
+    timeline: &mut S::Timeline,
     task: &Serve<'_>,
     bound: &mut Result<Bound<'_, C, L>, Unbound>,
-    out: &mut W,
 ) -> Result<u8, WriteFault>
-    ensures written { Serves (D.facts outside.now.disk.now) task.now (W.contents out.old) (W.contents out.new) result }
-    ensures cause { OnErr result (HasFailed W.facts) }
-    ensures replied { RepliesToTask D.facts H.stores T.says L.streams L.Reader.remaining L.Writer.contents outside.now task.now bound.old bound.new result }
+    ensures made { ServesIf (S.outside by.now.system.now) task.now (unbound_in bound.old) timeline.old timeline.new result }
+    ensures cause { OnErr result (OutputFails (S.outside by.now.system.now)) }
+    ensures replied { RepliesToTask S.outside T.says L.streams L.Reader.remaining L.Writer.contents by.now task.now bound.old bound.new result }
 {
-    let manifest = match manifest_of(outside.alloc, outside.disk, task) {
+    let manifest = match sound_manifest(by, timeline, task) {
         Ok(manifest) => manifest,
-        Err(refusal) => return refusal.put(out),
+        Err(refusal) => return print_refusal(by.system, timeline, refusal),
     };
-    let arena = arena_for(outside.alloc, task.memory);
-    match TableFolder::open(
-        outside.alloc,
-        outside.disk,
-        &mut (),
-        task.tables,
-        &manifest,
-        &arena,
-    ) {
-        Ok(folder) => serve_folder_if(outside, folder, task, bound, out),
-        Err(fault) => Refusal::of(fault).put(out),
+    let files = SystemFiles { system: by.system };
+    let arena = arena_for(by.alloc, task.memory);
+    match TableFolder::open(by.alloc, &files, timeline, task.tables, &manifest, &arena) {
+        Ok(folder) => serve_folder_if(by, timeline, folder, task, bound),
+        Err(fault) => print_refusal(by.system, timeline, Refusal::unread(fault)),
     }
 }

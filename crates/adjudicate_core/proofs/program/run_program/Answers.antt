@@ -1,4 +1,4 @@
-use Rattle.std.proofs.Common.{◌≡◌, Err, ap, refl, rules}
+use Rattle.std.proofs.Common.{◌≡◌, Err, ap, rules}
 use Rattle.command_line.specs.declared.words.usage.WordsFault.TheVariants.{NoText}
 use Rattle.adjudicate_core.specs.Program.{OnNoText, OnWords, called_by}
 use Rattle.adjudicate_core.proofs.program.run_program.Goals as goal
@@ -13,4 +13,4 @@ returns-in-Ok-tail_of g c =
 pub returns-in-Err-NoText : goal.returns-in-Err-NoText
 returns-in-Err-NoText g c =
     let is : called_by c.args.called.now ≡ Err (NoText c.in-Err-NoText.word) = search rules in
-    OnNoText c.in-Err-NoText.word c.as_slice.result is c.as_slice.ensures.value c.refuse_misuse.ensures refl
+    OnNoText c.in-Err-NoText.word c.as_slice.result is c.as_slice.ensures.value c.refuse_misuse.ensures

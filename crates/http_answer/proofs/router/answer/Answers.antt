@@ -1,6 +1,13 @@
 use Rattle.std.proofs.Common.{refl}
 use Rattle.std.proofs.lemmas.Result.{on_ok_weaker}
+use Rattle.http_answer.proofs.OpenReadLaws.{reads_on}
 use Rattle.http_answer.proofs.router.answer.Goals as goal
 
 pub returns-in-Game-clause-answered : goal.returns-in-Game-clause-answered
 returns-in-Game-clause-answered g c = rw c.in-Game.is (on_ok_weaker c.answer_game_with_room.result (λ has. (has, refl)) c.answer_game_with_room.ensures.game)
+
+pub returns-in-Games-clause-made : goal.returns-in-Games-clause-made
+returns-in-Games-clause-made g c = reads_on g.S.System.outside _ _ _ _ c.requires.one c.answer_report.ensures.made
+
+pub returns-in-Metrics-clause-made : goal.returns-in-Metrics-clause-made
+returns-in-Metrics-clause-made g c = reads_on g.S.System.outside _ _ _ _ c.requires.one c.answer_report-in-Metrics.ensures.made

@@ -1,9 +1,10 @@
 use Rattle.std.proofs.Common.{◌∙◌, ℕ, List, subst}
 use Rattle.std.proofs.lemmas.Result.{on_ok_weaker}
 use Rattle.http_answer.specs.Replies.{AnswersText}
+use Rattle.http_answer.specs.Files.{files_of}
 use Rattle.http_answer.proofs.answerer.Answerer.add_line.Goals as goal
 
 pub returns-clause-answer : goal.returns-clause-answer
 returns-clause-answer g c =
-    let answer = subst (λ (text : List ℕ). AnswersText (g.D.Disk.facts c.args.self.now.disk) c.args.self.now.folder text c.in_ok-line.line) (c.deref.ensures.value ∙ c.in_ok-text.ensures) c.in_ok-line.ensures.answer in
+    let answer = subst (λ (text : List ℕ). AnswersText ((files_of g.S.System.outside) c.args.self.now.disk) c.args.self.now.folder text c.in_ok-line.line) (c.deref.ensures.value ∙ c.in_ok-text.ensures) c.in_ok-line.ensures.answer in
     on_ok_weaker c.add_object_line.result (λ is. (c.in_ok-line.line, answer, is)) c.add_object_line.ensures

@@ -18,10 +18,9 @@ returns-in-Json-clause-none g c =
 
 pub returns-in-Json-clause-report : goal.returns-in-Json-clause-report
 returns-in-Json-clause-report g c =
-    let facts = g.D.Disk.facts in
-    let stores = g.H.Host.stores in
-    rw c.in-Json.is (so_by _ _ (λ s. IfSome c.fresh_report.result (λ r. IsReport facts stores s.on Json (report_in r.now))) c.self.view_is
-    (IfSome_then c.fresh_report.result c.fresh_report.ensures.some (λ r fresh. fresh_is_report facts stores _ Json (nanos c.args.now) c.self.inside.json (report_in r.now) c.self.invariant.0 fresh)))
+    let outside = g.S.System.outside in
+    rw c.in-Json.is (so_by _ _ (λ s. IfSome c.fresh_report.result (λ r. IsReport outside s.on Json (report_in r.now))) c.self.view_is
+    (IfSome_then c.fresh_report.result c.fresh_report.ensures.some (λ r fresh. fresh_is_report outside _ Json (nanos c.args.now) c.self.inside.json (report_in r.now) c.self.invariant.0 fresh)))
 
 pub returns-in-Metrics-clause-some : goal.returns-in-Metrics-clause-some
 returns-in-Metrics-clause-some g c =
@@ -33,7 +32,6 @@ returns-in-Metrics-clause-none g c =
 
 pub returns-in-Metrics-clause-report : goal.returns-in-Metrics-clause-report
 returns-in-Metrics-clause-report g c =
-    let facts = g.D.Disk.facts in
-    let stores = g.H.Host.stores in
-    rw c.in-Metrics.is (so_by _ _ (λ s. IfSome c.fresh_report-in-Metrics.result (λ r. IsReport facts stores s.on Metrics (report_in r.now))) c.self.view_is
-    (IfSome_then c.fresh_report-in-Metrics.result c.fresh_report-in-Metrics.ensures.some (λ r fresh. fresh_is_report facts stores _ Metrics (nanos c.args.now) c.self.inside.metrics (report_in r.now) c.self.invariant.1 fresh)))
+    let outside = g.S.System.outside in
+    rw c.in-Metrics.is (so_by _ _ (λ s. IfSome c.fresh_report-in-Metrics.result (λ r. IsReport outside s.on Metrics (report_in r.now))) c.self.view_is
+    (IfSome_then c.fresh_report-in-Metrics.result c.fresh_report-in-Metrics.ensures.some (λ r fresh. fresh_is_report outside _ Metrics (nanos c.args.now) c.self.inside.metrics (report_in r.now) c.self.invariant.1 fresh)))
