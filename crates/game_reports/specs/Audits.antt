@@ -6,6 +6,7 @@ use Rattle.command_line.specs.Commands.AuditGames.{named}
 use Rattle.command_line.specs.declared.commands.audit_games.AuditGames.{AuditGames}
 use Rattle.game_status.specs.GameAudits.{IsAuditOf, audit_told}
 use Rattle.game_status.specs.declared.audit_lines.AuditLook.{AuditLook}
+use Rattle.game_status.specs.declared.game_audit.AuditTables.{AuditTables}
 use Rattle.game_status.specs.declared.status_lines.Look.{Look}
 use Rattle.game_status.specs.declared.telling.GameTold.{GameTold}
 use Rattle.judge_core.specs.Tables.{Tables}
@@ -27,6 +28,10 @@ IsAuditLine manifest tables stamp l told = (audit : AuditLook) × IsAuditOf mani
 -- the folders are opened, and then their games are audited
 abbrev pub AuditsFolders : {T P F K S L : Type 0} → Outside T P F K S L → AuditGames → List ℕ → Tables → List Event → Option ℕ → Type 0
 AuditsFolders o t manifest tables events status = ByFolders o t.games.now (option_map (λ s. s.now) t.other) (TellsGames o.disk (IsAuditLine manifest tables)) events status
+
+-- so it is by these tables
+abbrev pub AuditsWith : {T P F K S L : Type 0} → Outside T P F K S L → AuditGames → AuditTables → List Event → Option ℕ → Type 0
+AuditsWith o t by = AuditsFolders o t by.manifest.now by.set.tables
 
 -- the tables are refused; or else the audit is by their manifest; or memory for them was refused
 pub data AuditsBy {T P F K S L : Type 0} (o : Outside T P F K S L) (t : AuditGames) (given : Given) (events : List Event) (status : Option ℕ) : Type 0 where

@@ -5,7 +5,7 @@ use Rattle.arbiter_server.specs.GameFolders.{kept_path}
 use Rattle.command_line.specs.declared.commands.game_record.GameRecord.{GameRecord}
 use Rattle.line_teller.specs.ToldLines.{cut_words, refused_files, refused_memory}
 use Rattle.system_io.specs.Disks.{DiskFacts, most_bytes}
-use Rattle.system_io.specs.Records.{StoredRecord}
+use Rattle.system_io.specs.Records.{Records, StoredRecord}
 use Rattle.system_io.specs.declared.reading.ReadFault.{ReadFault}
 use Rattle.task_files.specs.InputReads.{ReadsText}
 use Rattle.timeline.specs.Events.{Event, Wrote}
@@ -33,6 +33,10 @@ pub data PrintsFiled (disk : DiskFacts) (t : GameRecord) (events : List Event) (
 abbrev pub PrintsKept : DiskFacts → GameRecord → Option StoredRecord → Doing
 PrintsKept disk t (Some r) events status = PrintsStored r.bytes events status
 PrintsKept disk t None events status = PrintsFiled disk t events status
+
+-- so it is by the records of a store
+abbrev pub PrintsFound : DiskFacts → GameRecord → Records → Doing
+PrintsFound disk t records = PrintsKept disk t (records t.stamp)
 
 -- the folder is opened, and then the record is written; or why the folder isn't
 pub data PrintsGameRecord {T P F K S L : Type 0} (o : Outside T P F K S L) (t : GameRecord) (events : List Event) (status : Option ℕ) : Type 0 where

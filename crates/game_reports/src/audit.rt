@@ -2,7 +2,7 @@
 
 ghost use Rattle.std.specs.Prelude.{OnErr, option_map};
 ghost use Rattle.answer_parts.specs.Printing.{OutputFails, Performs};
-ghost use Rattle.game_reports.specs.Audits.{AuditsBy, AuditsFolders, AuditsGames};
+ghost use Rattle.game_reports.specs.Audits.{AuditsBy, AuditsGames, AuditsWith};
 ghost use Rattle.timeline.specs.Outsides.{AddsSome};
 
 use crate::folders::open_games;
@@ -41,7 +41,7 @@ fn audit_folders<S: System>(
     system: &S,
     timeline: &mut S::Timeline,
 ) -> Result<u8, WriteFault>
-    ensures made { let o = S.outside system.now in AddsSome o timeline.old timeline.new (Performs (AuditsFolders o task.now tables.entry.manifest.now tables.entry.set.tables) result) }
+    ensures made { let o = S.outside system.now in AddsSome o timeline.old timeline.new (Performs (AuditsWith o task.now tables.entry) result) }
     ensures cause { OnErr result (OutputFails (S.outside system.now)) }
 {
     match open_games(alloc, system, timeline, task.games, task.other) {

@@ -8,6 +8,7 @@ ghost use Rattle.game_reports.specs.Inside.StoreReading.{opened_of};
 ghost use Rattle.game_status.specs.Listings.{AddsStamps, game_ending};
 ghost use Rattle.game_status.specs.StoredDisks.{bytes_in};
 ghost use Rattle.system_io.specs.Records.{records_of};
+ghost use Rattle.task_files.specs.Sources.{path_named};
 ghost use Rattle.timeline.specs.Outsides.{AddsSome};
 
 use crate::store_reading::{OpenFolder, open_folder};
@@ -55,7 +56,7 @@ fn open_other<'a, S: System>(
     timeline: &mut S::Timeline,
     path: Option<&'a str>,
 ) -> Result<Option<OpenFolder<'a>>, Refusal>
-    ensures { let o = S.outside system.now in AddsSome o timeline.old timeline.new (OpensOther o (option_map (λ s. s.now) path.entry) (other_or_not result)) }
+    ensures { let o = S.outside system.now in AddsSome o timeline.old timeline.new (OpensOther o (path_named path.entry) (other_or_not result)) }
 {
     match path {
         None => Ok(None),
@@ -74,7 +75,7 @@ fn open_both<'a, S: System>(
     folder: &'a str,
     other: Option<&'a str>,
 ) -> Result<OpenFolders<'a>, Refusal>
-    ensures { let o = S.outside system.now in AddsSome o timeline.old timeline.new (OpensBoth o folder.now (option_map (λ s. s.now) other.entry) (both_or_not result)) }
+    ensures { let o = S.outside system.now in AddsSome o timeline.old timeline.new (OpensBoth o folder.now (path_named other.entry) (both_or_not result)) }
 {
     let one = match open_folder(alloc, system, timeline, folder) {
         Ok(one) => one,
@@ -172,7 +173,7 @@ pub(crate) fn open_games<'a, S: System>(
     folder: &'a str,
     other: Option<&'a str>,
 ) -> Result<GameFolders<'a>, Refusal>
-    ensures { let o = S.outside system.now in AddsSome o timeline.old timeline.new (OpensGames o folder.now (option_map (λ s. s.now) other.entry) (games_or_not result)) }
+    ensures { let o = S.outside system.now in AddsSome o timeline.old timeline.new (OpensGames o folder.now (path_named other.entry) (games_or_not result)) }
 {
     let opened = match open_both(alloc, system, timeline, folder, other) {
         Ok(opened) => opened,

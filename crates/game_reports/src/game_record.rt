@@ -2,7 +2,7 @@
 
 ghost use Rattle.std.specs.Prelude.{◌<◌, ◌↔◌, length, IsTrue, OnErr};
 ghost use Rattle.answer_parts.specs.Printing.{OutputFails, Performs};
-ghost use Rattle.game_reports.specs.GameRecords.{PrintsFiled, PrintsGameRecord, PrintsKept, PrintsStored};
+ghost use Rattle.game_reports.specs.GameRecords.{PrintsFiled, PrintsFound, PrintsGameRecord, PrintsStored};
 ghost use Rattle.system_io.specs.Disks.{most_bytes};
 ghost use Rattle.system_io.specs.Records.{records_of};
 ghost use Rattle.timeline.specs.Outsides.{AddsSome};
@@ -68,7 +68,7 @@ fn print_kept<S: System>(
     system: &S,
     timeline: &mut S::Timeline,
 ) -> Result<u8, WriteFault>
-    ensures made { let o = S.outside system.now in AddsSome o timeline.old timeline.new (Performs (PrintsKept o.disk task.now (records_of entries.now task.now.stamp)) result) }
+    ensures made { let o = S.outside system.now in AddsSome o timeline.old timeline.new (Performs (PrintsFound o.disk task.now (records_of entries.now)) result) }
     ensures cause { OnErr result (OutputFails (S.outside system.now)) }
 {
     match found_in(entries, task.stamp) {

@@ -4,8 +4,8 @@
 //! one moment all the same. Here the order of the reads is in the clauses.
 
 ghost use Rattle.std.specs.Prelude.{◌≡◌, [], map, option_map, string_bytes, IfOk};
-ghost use Rattle.game_reports.specs.Inside.StoreReading.{bytes_taken, folder_of, once_taken, opened_or_not, records_taken, store_bytes};
-ghost use Rattle.game_reports.specs.StoreReads.{HoldsRecords, Opens, ReadsBoth, ReadsLog, ReadsOnce, ReadsRecords, ReadsStore, ReadsStoreBytes, at_one_moment, unread_words};
+ghost use Rattle.game_reports.specs.Inside.StoreReading.{bytes_taken, folder_of, once_taken, opened_or_not, ReadsThis, records_taken, store_bytes};
+ghost use Rattle.game_reports.specs.StoreReads.{HoldsRecords, Opens, ReadsBoth, ReadsLog, ReadsOnce, ReadsRecords, ReadsStoreBytes, at_one_moment, unread_words};
 ghost use Rattle.system_io.specs.Records.{records_of};
 ghost use Rattle.timeline.specs.Events.{bytes_found, bytes_read};
 ghost use Rattle.timeline.specs.Outsides.{AddsSome};
@@ -207,7 +207,7 @@ fn read_store<S: System>(
     store: &StoreWords<'_>,
     names: &[String],
 ) -> Result<Vec<Entry>, ReadFault>
-    ensures { let o = S.outside system.now in AddsSome o timeline.old timeline.new (ReadsStore o (folder_of store.now) (map string_bytes names.now) (records_taken result)) }
+    ensures { let o = S.outside system.now in AddsSome o timeline.old timeline.new (ReadsThis o store.now (map string_bytes names.now) result) }
 {
     if has_half_store(names) {
         return Err(ReadFault::Unreadable);

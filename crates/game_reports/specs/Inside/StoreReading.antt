@@ -4,8 +4,11 @@ use Rattle.std.specs.Global.{Global}
 use Rattle.answer_parts.specs.Lines.{refusal_words}
 use Rattle.answer_parts.specs.declared.answers.refusals.Refusal.{Refusal}
 use Rattle.system_io.specs.Records.{Records, records_of}
+use Rattle.system_io.specs.declared.reading.ReadFault.{ReadFault}
 use Rattle.system_io.specs.declared.record_store.Entry.{Entry}
-use Rattle.game_reports.specs.StoreReads.{OpenedFolder, StoreBytes, StoreFolder, opened_as}
+use Rattle.timeline.specs.Events.{Event}
+use Rattle.timeline.specs.Outsides.{Outside}
+use Rattle.game_reports.specs.StoreReads.{OpenedFolder, ReadsStore, StoreBytes, StoreFolder, opened_as}
 use Rattle.game_reports.specs.declared.store_reading.OpenFolder.{OpenFolder}
 use Rattle.game_reports.specs.declared.store_reading.StoreFiles.{StoreFiles}
 use Rattle.game_reports.specs.declared.store_reading.StoreWords.{StoreWords}
@@ -27,6 +30,10 @@ once_taken (Err e) = Err e
 abbrev pub records_taken : {E : Type 0} → Result (Vec Entry Global) E → Result Records E
 records_taken (Ok entries) = Ok (records_of entries.items)
 records_taken (Err e) = Err e
+
+-- the store of a folder is read
+abbrev pub ReadsThis : {T P F K S L : Type 0} → Outside T P F K S L → StoreWords → List (List ℕ) → Result (Vec Entry Global) ReadFault → List Event → Type 0
+ReadsThis o words names result = ReadsStore o (folder_of words) names (records_taken result)
 
 -- a folder that was opened, or the words that refuse it
 abbrev pub opened_of : OpenFolder → OpenedFolder
