@@ -12,8 +12,8 @@
 //! that tells an address), `listening`; of `host` `listing` (its folder), `arriving` (the file of a record that goes over), `importing`
 //! (all of them), `store_opening`, `hosting`; of both `tables` (what was read) and `serving` (a run).
 //!
-//! Definitions, in reading order: `Notes`, `Steps` (`AndThen`, `ThenOrRefused`), `Binds`, `Locks`, `Ready`, `ServerRuns` (`AnswersAll`), `Listens` (`Listens`); `Listings`,
-//! `Imports` (`ImportsRecords`), `Hosts` (`Hosts`), `Outliving` (`PerformsOutliving`).
+//! Definitions, in reading order: `Notes`, `Steps` (`AndThen`, `ThenOrRefused`), `Binds`, `Locks`, `Ready`, `ServerRuns` (`AnswersAll`),
+//! `Listens` (`Listens`); `Listings`, `Imports` (`ImportsRecords`), `Hosts` (`Hosts`), `Outliving` (`PerformsOutliving`).
 //!
 //! - CLAIM: `listen`, clause `made`: what the words name is read first; then are refused in this order the text of the start, the tables, the
 //!   address, the lock of the file in which the record is kept, and that file or what stands there. Where that is wanted, the line
