@@ -47,6 +47,7 @@ struct Opened<'a, P: Drop, K: Drop, G: Drop> {
 /// What a server of games is made of.
 #[derive(Drop)]
 pub(crate) struct GamesServed<'a, G: Drop> {
+    alloc: Global,
     config: ServerConfig<'a>,
     tables: Set<'a>,
     games: G,
@@ -110,7 +111,6 @@ fn serve_logged<'a, S: System, G: Games<S> + Drop>(
 
 /// Makes a server with a log of the form that the words name, and serves the games at a port.
 fn serve_games<'a, S: System, G: Games<S> + Drop>(
-    alloc: Global,
     task: &HostGames<'_>,
     served: GamesServed<'a, G>,
     port: &mut S::Port,
@@ -121,6 +121,7 @@ fn serve_games<'a, S: System, G: Games<S> + Drop>(
     ensures cause { OnErr result (OutputFails (S.outside system.now)) }
 {
     let GamesServed {
+        alloc,
         config,
         tables,
         games,
@@ -187,11 +188,12 @@ fn open_all<'a, 'f, S: System>(
     })
 }
 
-/// Serves the games of the folder at a port, each with a file for its record, or all with the store, where there is one.
+/// Serves the games of the folder at a port, each with a file for its record, or all with the store, where there is one. The lock of the
+/// folder is lent, so that it is held meanwhile.
 fn serve_kept<'a, 'f, S: System>(
-    alloc: Global,
     task: &HostGames<'_>,
     served: GamesServed<'a, Option<StoreGames<'f, S>>>,
+    _held: &S::Lock,
     port: &mut S::Port,
     system: &S,
     timeline: &mut S::Timeline,
@@ -200,6 +202,7 @@ fn serve_kept<'a, 'f, S: System>(
     ensures cause { OnErr result (OutputFails (S.outside system.now)) }
 {
     let GamesServed {
+        alloc,
         config,
         tables,
         games,
@@ -207,19 +210,21 @@ fn serve_kept<'a, 'f, S: System>(
     match games {
         None => {
             let served = GamesServed {
+                alloc,
                 config,
                 tables,
                 games: FolderGames { folder: task.games },
             };
-            serve_games(alloc, task, served, port, system, timeline)
+            serve_games(task, served, port, system, timeline)
         }
         Some(games) => {
             let served = GamesServed {
+                alloc,
                 config,
                 tables,
                 games,
             };
-            serve_games(alloc, task, served, port, system, timeline)
+            serve_games(task, served, port, system, timeline)
         }
     }
 }
@@ -244,7 +249,7 @@ fn host_by<S: System>(
         manifest,
         mut port,
         line,
-        held: _held,
+        held,
         store,
     } = opened;
     match print_out(system, timeline, line.as_str()) {
@@ -253,11 +258,12 @@ fn host_by<S: System>(
     }
     note_tables(alloc, system, timeline, sources.files().len());
     let served = GamesServed {
+        alloc,
         config: config_for(task, &manifest),
         tables,
         games: store,
     };
-    serve_kept(alloc, task, served, &mut port, system, timeline)
+    serve_kept(task, served, &held, &mut port, system, timeline)
 }
 
 /// Answers the datagrams of any number of games as the words say, each by the arbiter of its game, and returns the status.

@@ -34,8 +34,8 @@
 //!
 //! An import which memory was refused for leaves the store as it was (a private clause).
 //!
-//! Not said: that a line is noted where memory for it isn't refused, but that a lost log is; why memory was refused; how long a lock is held;
-//! whether it was memory for which the store refused an import.
+//! Not said: that a line is noted where memory for it isn't refused, but that a lost log is; why memory was refused; how long a lock is held,
+//! but that what serves borrows it; whether it was memory for which the store refused an import.
 #![tactic(auto)]
 
 mod arriving;

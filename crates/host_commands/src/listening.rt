@@ -44,6 +44,7 @@ struct Opened<'a, P: Drop> {
 /// What a server of one game is made of.
 #[derive(Drop)]
 pub(crate) struct OneServed<'a, G: Drop> {
+    alloc: Global,
     config: ServerConfig<'a>,
     tables: Set<'a>,
     games: G,
@@ -105,11 +106,11 @@ fn open_and_serve<'a, S: System, G: Games<S> + Drop>(
     }
 }
 
-/// Makes a server, and serves the game at a port.
+/// Makes a server, and serves the game at a port. The lock of the file of its record is lent, so that it is held meanwhile.
 fn serve_one<'a, S: System, G: Games<S> + Drop>(
-    alloc: Global,
     task: &Listen<'_>,
     served: OneServed<'a, G>,
+    _held: &S::Lock,
     port: &mut S::Port,
     system: &S,
     timeline: &mut S::Timeline,
@@ -118,6 +119,7 @@ fn serve_one<'a, S: System, G: Games<S> + Drop>(
     ensures cause { OnErr result (OutputFails (S.outside system.now)) }
 {
     let OneServed {
+        alloc,
         config,
         tables,
         games,
@@ -144,6 +146,7 @@ fn one_game<'t>(task: &Listen<'t>, start: Position, manifest: &[u8]) -> OneGame<
 
 /// What is served of the game from this start, by these tables.
 fn served_from<'a, 't>(
+    alloc: Global,
     task: &Listen<'t>,
     start: Position,
     tables: Set<'a>,
@@ -152,6 +155,7 @@ fn served_from<'a, 't>(
     ensures { served_one result ≡ served_of task.now start tables.entry manifest.now }
 {
     OneServed {
+        alloc,
         config: ServerConfig {
             manifest,
             me: task.me,
@@ -211,7 +215,7 @@ fn lock_and_serve<S: System>(
     ensures cause { OnErr result (OutputFails (S.outside system.now)) }
 {
     match lock(alloc, system, timeline, task.kept, BESIDE_KEPT) {
-        Ok(_held) => serve_one(alloc, task, served, port, system, timeline),
+        Ok(held) => serve_one(task, served, &held, port, system, timeline),
         Err(refusal) => print_refusal(system, timeline, refusal),
     }
 }
@@ -243,7 +247,7 @@ fn listen_by<S: System>(
         Ok(()) => {}
         Err(fault) => return Err(fault),
     }
-    let served = served_from(task, start, tables, &manifest);
+    let served = served_from(alloc, task, start, tables, &manifest);
     lock_and_serve(alloc, task, served, &mut port, system, timeline)
 }
 

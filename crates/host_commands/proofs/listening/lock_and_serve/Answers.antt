@@ -10,7 +10,7 @@ pub returns-in-Ok-clause-made : goal.returns-in-Ok-clause-made
 returns-in-Ok-clause-made g c =
     let o = g.S.System.outside c.args.system.now in
     let l = c.args.task.now in
-    goes_on o _ _ _ (LocksFile o (kept_lock l.kept.now)) (λ held. RunsOne o (one_game_facts o) l (served_one c.args.served) c.args.port.now) c.in-Ok._held c.serve_one.result c.in-Ok.ensures c.serve_one.ensures.made
+    goes_on o _ _ _ (LocksFile o (kept_lock l.kept.now)) (λ held. RunsOne o (one_game_facts o) l (served_one c.args.served) c.args.port.now) c.in-Ok.held c.serve_one.result c.in-Ok.ensures c.serve_one.ensures.made
 
 pub returns-in-Err-clause-made : goal.returns-in-Err-clause-made
 returns-in-Err-clause-made g c =
