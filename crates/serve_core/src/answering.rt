@@ -42,7 +42,7 @@ pub struct Answering<'a, 'r, 's, 't, S: System, C: Times> {
     asked: Asked<'a>,
     system: &'r S,
     timeline: &'t mut S::Timeline,
-    router: Router<'r, 's, S, C>,
+    router: &'t mut Router<'r, 's, S, C>,
     answered: u64,
 }
 
@@ -51,9 +51,9 @@ impl<'a, 'r, 's, 't, S: System, C: Times> Model for Answering<'a, 'r, 's, 't, S,
 
     ghost Value = { AnsweringView S C };
 
-    ghost view = { λ a. record { ground = record { timeline = a.timeline.ghost_name; system = a.system.now; ready = a.asked.ready.now }; tables = a.router.answerer; games = a.router.games } };
+    ghost view = { λ a. record { ground = record { timeline = a.timeline.ghost_name; system = a.system.now; ready = a.asked.ready.now }; tables = a.router.now.answerer; games = a.router.now.games } };
 
-    ghost invariant = { λ a. IsGrounded S.outside a.system.now a.router.answerer a.router.games a.timeline.now a.asked.ready.now };
+    ghost invariant = { λ a. IsGrounded S.outside a.system.now a.router.now.answerer a.router.now.games a.timeline.now a.asked.ready.now };
 }
 
 /// Notes the line of a request and its response, if requests are logged. One for which memory is refused is left out.
@@ -138,11 +138,12 @@ pub fn answer_requests<'r, C: Clock, L: Listener + Drop, S: System, T: Times>(
     ensures replied { RoutesOver S.outside T.says router.entry.answerer router.entry.games L.streams L.Reader.remaining L.Writer.contents server.old server.new }
     ensures since { OnlyReadsSince (S.outside system.now) timeline.new asked.entry.ready.now }
 {
+    let mut own = router;
     let mut service = Answering {
         asked,
         system,
         timeline,
-        router,
+        router: &mut own,
         answered: 0,
     };
     let answered = answer_rounds(server, &mut service, asked.requests);

@@ -15,3 +15,9 @@ returns-clause-replied g c =
     all_have_replies outside says _ _ g.L.Reader.Read.remaining g.L.Writer.Write.contents (config_of server) rounds.0 before (g.L.Listener.streams (listener_of server)) server.peers
     (all_routed outside says (λ v. v.tables) (λ v. v.games) rounds.0 _ _ (chain_routes outside says rounds.0 _ _ rounds.1))
     (c.close.ensures.closed rounds.0 before (rounds.2 [] before h)) (c.close.ensures.served rounds.0 before (rounds.2 [] before h))
+
+pub returns-clause-since : goal.returns-clause-since
+returns-clause-since g c =
+    let rounds = c.answer_rounds-answered.ensures in
+    let same = ap (λ v. v.ground) c.service.view_is ∙ ground_stays g.S.System.outside g.T.Times.says rounds.0 _ _ rounds.1 in
+    since_end g.S.System.outside _ _ _ _ same c.service.invariant.since (c.timeline-1.given.1 (sym (ap (λ x. x.timeline) same)))
