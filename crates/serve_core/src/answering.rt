@@ -38,15 +38,15 @@ pub struct Asked<'r> {
 ///
 /// Contracts see which timeline it has, and the folders that requests are answered by.
 #[derive(Drop)]
-pub struct Answering<'a, 'r, 's, 't, S: System, C: Times> {
+pub struct Answering<'a, 'r, 's, 't, 'y, S: System, C: Times> {
     asked: Asked<'a>,
     system: &'r S,
     timeline: &'t mut S::Timeline,
-    router: &'t mut Router<'r, 's, S, C>,
+    router: &'y mut Router<'r, 's, S, C>,
     answered: u64,
 }
 
-impl<'a, 'r, 's, 't, S: System, C: Times> Model for Answering<'a, 'r, 's, 't, S, C> {
+impl<'a, 'r, 's, 't, 'y, S: System, C: Times> Model for Answering<'a, 'r, 's, 't, 'y, S, C> {
     ghost use Rattle.serve_core.specs.Answering.{AnsweringView, IsGrounded};
 
     ghost Value = { AnsweringView S C };
@@ -75,7 +75,7 @@ fn note_request<S: System>(
     }
 }
 
-impl<'a, 'r, 's, 't, S: System, C: Times> Service for Answering<'a, 'r, 's, 't, S, C> {
+impl<'a, 'r, 's, 't, 'y, S: System, C: Times> Service for Answering<'a, 'r, 's, 't, 'y, S, C> {
     ghost use Rattle.serve_core.specs.Answering.{AnswersOne};
 
     ghost answers = { AnswersOne S.outside C.says };
@@ -96,7 +96,7 @@ impl<'a, 'r, 's, 't, S: System, C: Times> Service for Answering<'a, 'r, 's, 't, 
     }
 }
 
-impl<'a, 'r, 's, 't, S: System, C: Times> Answering<'a, 'r, 's, 't, S, C> {
+impl<'a, 'r, 's, 't, 'y, S: System, C: Times> Answering<'a, 'r, 's, 't, 'y, S, C> {
     /// How many requests it has answered, at most 2^64 - 1.
     fn answered(&self) -> u64 {
         self.answered
@@ -106,7 +106,7 @@ impl<'a, 'r, 's, 't, S: System, C: Times> Answering<'a, 'r, 's, 't, S, C> {
 /// Has so many requests answered. The error comes where the listener can't wait, or memory is refused.
 fn answer_rounds<C: Clock, L: Listener + Drop, S: System, T: Times>(
     server: &mut Server<'_, C, L>,
-    service: &mut Answering<'_, '_, '_, '_, S, T>,
+    service: &mut Answering<'_, '_, '_, '_, '_, S, T>,
     requests: u64,
 ) -> io::Result<()>
     ensures { ServesCalls L.streams L.Reader.remaining L.Writer.contents (AnswersOne S.outside T.says) service.old service.new server.old server.new }
