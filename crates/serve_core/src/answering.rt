@@ -38,22 +38,22 @@ pub struct Asked<'r> {
 ///
 /// Contracts see which timeline it has, and the folders that requests are answered by.
 #[derive(Drop)]
-pub struct Answering<'a, 'r, 's, 't, 'y, S: System, C: Times> {
+pub struct Answering<'a, 'r, 's, 't, S: System, C: Times> {
     asked: Asked<'a>,
     system: &'r S,
     timeline: &'t mut S::Timeline,
-    router: &'y mut Router<'r, 's, S, C>,
+    router: Router<'r, 's, S, C>,
     answered: u64,
 }
 
-impl<'a, 'r, 's, 't, 'y, S: System, C: Times> Model for Answering<'a, 'r, 's, 't, 'y, S, C> {
+impl<'a, 'r, 's, 't, S: System, C: Times> Model for Answering<'a, 'r, 's, 't, S, C> {
     ghost use Rattle.serve_core.specs.Answering.{AnsweringView, IsGrounded};
 
     ghost Value = { AnsweringView S C };
 
-    ghost view = { λ a. record { ground = record { timeline = a.timeline.ghost_name; system = a.system.now; ready = a.asked.ready.now }; tables = a.router.now.answerer; games = a.router.now.games } };
+    ghost view = { λ a. record { ground = record { timeline = a.timeline.ghost_name; system = a.system.now; ready = a.asked.ready.now }; tables = a.router.answerer; games = a.router.games } };
 
-    ghost invariant = { λ a. IsGrounded S.outside a.system.now a.router.now.answerer a.router.now.games a.timeline.now a.asked.ready.now };
+    ghost invariant = { λ a. IsGrounded S.outside a.system.now a.router.answerer a.router.games a.timeline.now a.asked.ready.now };
 }
 
 /// Notes the line of a request and its response, if requests are logged. One for which memory is refused is left out.
@@ -75,7 +75,7 @@ fn note_request<S: System>(
     }
 }
 
-impl<'a, 'r, 's, 't, 'y, S: System, C: Times> Service for Answering<'a, 'r, 's, 't, 'y, S, C> {
+impl<'a, 'r, 's, 't, S: System, C: Times> Service for Answering<'a, 'r, 's, 't, S, C> {
     ghost use Rattle.serve_core.specs.Answering.{AnswersOne};
 
     ghost answers = { AnswersOne S.outside C.says };
@@ -96,17 +96,32 @@ impl<'a, 'r, 's, 't, 'y, S: System, C: Times> Service for Answering<'a, 'r, 's, 
     }
 }
 
-impl<'a, 'r, 's, 't, 'y, S: System, C: Times> Answering<'a, 'r, 's, 't, 'y, S, C> {
+impl<'a, 'r, 's, 't, S: System, C: Times> Answering<'a, 'r, 's, 't, S, C> {
     /// How many requests it has answered, at most 2^64 - 1.
     fn answered(&self) -> u64 {
         self.answered
+    }
+
+    /// Gives its timeline back.
+    fn end(self) -> &'t mut S::Timeline
+        ensures same { result.ghost_name ≡ self.entry.ground.timeline }
+        ensures since { OnlyReadsSince (S.outside self.entry.ground.system) result.now self.entry.ground.ready }
+    {
+        let Answering {
+            asked: _,
+            system: _,
+            timeline,
+            router: _router,
+            answered: _,
+        } = self;
+        timeline
     }
 }
 
 /// Has so many requests answered. The error comes where the listener can't wait, or memory is refused.
 fn answer_rounds<C: Clock, L: Listener + Drop, S: System, T: Times>(
     server: &mut Server<'_, C, L>,
-    service: &mut Answering<'_, '_, '_, '_, '_, S, T>,
+    service: &mut Answering<'_, '_, '_, '_, S, T>,
     requests: u64,
 ) -> io::Result<()>
     ensures { ServesCalls L.streams L.Reader.remaining L.Writer.contents (AnswersOne S.outside T.says) service.old service.new server.old server.new }
@@ -138,22 +153,15 @@ pub fn answer_requests<'r, C: Clock, L: Listener + Drop, S: System, T: Times>(
     ensures replied { RoutesOver S.outside T.says router.entry.answerer router.entry.games L.streams L.Reader.remaining L.Writer.contents server.old server.new }
     ensures since { OnlyReadsSince (S.outside system.now) timeline.new asked.entry.ready.now }
 {
-    let mut own = router;
     let mut service = Answering {
         asked,
         system,
         timeline,
-        router: &mut own,
+        router,
         answered: 0,
     };
     let answered = answer_rounds(server, &mut service, asked.requests);
-    let Answering {
-        asked: _,
-        system: _,
-        timeline: _timeline,
-        router: _router,
-        answered: _,
-    } = service;
+    let _timeline = service.end();
     server.close();
     answered
 }

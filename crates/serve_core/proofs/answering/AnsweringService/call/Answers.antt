@@ -16,4 +16,4 @@ invariant_of-self g c = grounded_on g.S.System.outside g.C.Times.says _ _ _ _ _ 
 pub invariant_of-self-in-Err : goal.invariant_of-self-in-Err
 invariant_of-self-in-Err g c =
     subst (λ r. IsGrounded g.S.System.outside c.self.inside.system.now r.answerer r.games c.answer.new.timeline c.self.inside.asked.ready.now) (sym c.in-Err.ensures.same)
-    (grounded_still g.S.System.outside g.C.Times.says c.self.inside.system.now c.self.inside.router.now.answerer c.self.inside.router.now.games c.self.inside.timeline.now c.answer.new.timeline c.self.inside.asked.ready.now c.self.invariant c.in-Err.ensures.made)
+    (grounded_still g.S.System.outside g.C.Times.says c.self.inside.system.now c.self.inside.router.answerer c.self.inside.router.games c.self.inside.timeline.now c.answer.new.timeline c.self.inside.asked.ready.now c.self.invariant c.in-Err.ensures.made)
