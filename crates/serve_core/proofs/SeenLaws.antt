@@ -1,14 +1,17 @@
 -- A service over a timeline, as contracts see it.
-use Rattle.std.proofs.Common.{◌≡◌, ◌∙◌, ℕ, List, [], ◌∷◌, Option, Some, None, ap, refl, subst, sym}
+use Rattle.std.proofs.Common.{◌≡◌, ◌∙◌, ℕ, Bool, List, [], ◌∷◌, Option, Some, None, ap, refl, subst, sym}
 use Rattle.http.specs.declared.request.Request.{Request}
 use Rattle.http_answer.specs.Games.{AreOfOne, GamesByClock, GamesOn, Routes, places_of}
 use Rattle.http_server.specs.Exchange.{Call, Chain}
 use Rattle.http_server.specs.declared.response.Response.{Response}
 use Rattle.table_folder.specs.Folders.{FolderOn}
 use Rattle.table_folder.specs.declared.files.SystemFiles.{SystemFiles}
-use Rattle.timeline.specs.Outsides.{Outside}
-use Rattle.serve_core.specs.Answering.{AnsweringView, AnswersOne, Ground}
+use Rattle.game_reports.specs.Readings.{OnlyReads}
+use Rattle.timeline.specs.Outsides.{AddsSome, Outside}
+use Rattle.serve_core.specs.Answering.{AnsweringView, AnswersOne, Ground, IsGrounded}
+use Rattle.serve_core.specs.Logging.{NotesRequest}
 use Rattle.serve_core.specs.Serve.{OnlyReadsSince}
+use Rattle.serve_core.proofs.SinceLaws.{note_reads, since_more}
 
 module _ {G C T P F K S L : Type 0} (outside : G → Outside T P F K S L) (says : C → Option ℕ → Type 0) where
   -- what holds of a service inside holds of it as contracts see it
@@ -27,7 +30,7 @@ module _ {G C T P F K S L : Type 0} (outside : G → Outside T P F K S L) (says 
   chain_routes [] old new x = x
   chain_routes (c ∷ calls) old new (next, one, more) = (next, one.routes, chain_routes calls next new more)
 
-pub view_by : {G C : Type 0} → Ground G → FolderOn (SystemFiles G) → Option (GamesByClock G C) → AnsweringView G C
+abbrev pub view_by : {G C : Type 0} → Ground G → FolderOn (SystemFiles G) → Option (GamesByClock G C) → AnsweringView G C
 view_by ground tables games = record { ground = ground; tables = tables; games = games }
 
 -- what came to the end of a borrow
@@ -36,23 +39,41 @@ since_end {G} {T} outside inside ground t end same since is = subst (λ (x : Gro
 
 -- ---- the folders stay on one system
 
-module _ {G C : Type 0} (tables : FolderOn (SystemFiles G)) where
-  abbrev OneAt : Option (GamesOn G) → Type 0
-  OneAt None = Unit {0}
-  OneAt (Some on) = on.system ≡ tables.disk.system.now
+abbrev OneAt : {G : Type 0} → FolderOn (SystemFiles G) → Option (GamesOn G) → Type 0
+OneAt tables None = Unit {0}
+OneAt tables (Some on) = on.system ≡ tables.disk.system.now
 
-  to_places : (was : Option (GamesByClock G C)) → AreOfOne tables was → OneAt (places_of was)
-  to_places None one = tt
-  to_places (Some g) one = one
+to_places : {G C : Type 0} (tables : FolderOn (SystemFiles G)) (was : Option (GamesByClock G C)) → AreOfOne tables was → OneAt tables (places_of was)
+to_places tables None one = tt
+to_places tables (Some g) one = one
 
-  of_places : (now : Option (GamesByClock G C)) → OneAt (places_of now) → AreOfOne tables now
-  of_places None one = tt
-  of_places (Some g) one = one
+of_places : {G C : Type 0} (tables : FolderOn (SystemFiles G)) (now : Option (GamesByClock G C)) → OneAt tables (places_of now) → AreOfOne tables now
+of_places tables None one = tt
+of_places tables (Some g) one = one
 
-  places_one : (was now : Option (GamesByClock G C)) → AreOfOne tables was → places_of was ≡ places_of now → AreOfOne tables now
-  places_one was now one same = of_places now (subst OneAt same (to_places was one))
+module _ {G C T P F K S L : Type 0} (outside : G → Outside T P F K S L) (says : C → Option ℕ → Type 0) where
+  one_stays : (old new : FolderOn (SystemFiles G)) (was now : Option (GamesByClock G C)) (request : Request (List ℕ)) (r : Response) → AreOfOne old was → Routes outside says old was request r new now → AreOfOne new now
+  one_stays old new was now request r one routes =
+      subst (λ (x : FolderOn (SystemFiles G)). AreOfOne x now) (sym routes.tables_stay) (of_places old now (subst (OneAt old) (sym routes.games_stay) (to_places old was one)))
 
-pub one_stays : {G C T P F K S L : Type 0} (outside : G → Outside T P F K S L) (says : C → Option ℕ → Type 0) (old new : FolderOn (SystemFiles G)) (was now : Option (GamesByClock G C)) (request : Request (List ℕ)) (r : Response)
-    → AreOfOne old was → Routes outside says old was request r new now → AreOfOne new now
-one_stays {G} {C} outside says old new was now request r one routes =
-    subst (λ (x : FolderOn (SystemFiles G)). AreOfOne x now) (sym routes.tables_stay) (places_one old was now one (sym routes.games_stay))
+  reads_here : (x y : G) (a b : T) → x ≡ y → OnlyReads (outside y) a b → OnlyReads (outside x) a b
+  reads_here x y a b same p = subst (λ (s : G). OnlyReads (outside s) a b) (sym same) p
+
+  -- a request was answered, and noted
+  pub grounded_on : (system : G) (old new : FolderOn (SystemFiles G)) (was now : Option (GamesByClock G C)) (a b c : T) (ready : List ℕ) (request : Request (List ℕ)) (r : Response) (is_logged : Bool) (line : List ℕ)
+      → IsGrounded outside system old was a ready → Routes outside says old was request r new now → OnlyReads (outside old.disk.system.now) a b → AddsSome (outside system) b c (NotesRequest is_logged line)
+      → IsGrounded outside system new now c ready
+  grounded_on system old new was now a b c ready request r is_logged line ground routes reads notes = record {
+    one = one_stays old new was now request r ground.one routes;
+    same = ground.same ∙ ap (λ (x : FolderOn (SystemFiles G)). x.disk.system.now) (sym routes.tables_stay);
+    since = since_more (outside system) b c ready (since_more (outside system) a b ready ground.since (reads_here system old.disk.system.now a b ground.same reads)) (note_reads (outside system) b c is_logged line notes);
+  }
+
+  -- or memory was refused for it
+  pub grounded_still : (system : G) (tables : FolderOn (SystemFiles G)) (games : Option (GamesByClock G C)) (a b : T) (ready : List ℕ) → IsGrounded outside system tables games a ready → OnlyReads (outside tables.disk.system.now) a b
+      → IsGrounded outside system tables games b ready
+  grounded_still system tables games a b ready ground reads = record {
+    one = ground.one;
+    same = ground.same;
+    since = since_more (outside system) a b ready ground.since (reads_here system tables.disk.system.now a b ground.same reads);
+  }

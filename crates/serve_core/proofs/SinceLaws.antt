@@ -35,11 +35,11 @@ module _ {T P F K S L : Type 0} (o : Outside T P F K S L) where
   note_reads a b is_logged line p = adds_so o a b (NotesRequest is_logged line) AreReadings step p
     where
       step : (events : List Event) → NotesRequest is_logged line events → AreReadings events
-      step events (RequestNoted yes is) = one_read events (Noted line) refl is
+      step events (RequestNoted logged is) = one_read events (Noted line) refl is
       step events (RequestNotNoted is) = none_read events is
 
   pub request_noted : (a b : T) (is_logged : Bool) (line other : List ℕ) → is_logged ≡ true → other ≡ line → Adds o a b (Noted other ∷ []) → AddsSome o a b (NotesRequest is_logged line)
-  request_noted a b is_logged line other yes is p = (Noted other ∷ [], p, RequestNoted yes (ap (λ (l : List ℕ). Noted l ∷ []) is))
+  request_noted a b is_logged line other logged is p = (Noted other ∷ [], p, RequestNoted logged (ap (λ (l : List ℕ). Noted l ∷ []) is))
 
   pub nothing_noted : (a : T) (is_logged : Bool) (line : List ℕ) → AddsSome o a a (NotesRequest is_logged line)
   nothing_noted a is_logged line = ([], adds_none o a, RequestNotNoted refl)

@@ -38,15 +38,15 @@ pub struct Asked<'r> {
 ///
 /// Contracts see which timeline it has, and the folders that requests are answered by.
 #[derive(Drop)]
-pub struct Answering<'r, 's, 't, S: System, C: Times> {
-    asked: Asked<'r>,
+pub struct Answering<'a, 'r, 's, 't, S: System, C: Times> {
+    asked: Asked<'a>,
     system: &'r S,
     timeline: &'t mut S::Timeline,
     router: Router<'r, 's, S, C>,
     answered: u64,
 }
 
-impl<'r, 's, 't, S: System, C: Times> Model for Answering<'r, 's, 't, S, C> {
+impl<'a, 'r, 's, 't, S: System, C: Times> Model for Answering<'a, 'r, 's, 't, S, C> {
     ghost use Rattle.serve_core.specs.Answering.{AnsweringView, IsGrounded};
 
     ghost Value = { AnsweringView S C };
@@ -75,7 +75,7 @@ fn note_request<S: System>(
     }
 }
 
-impl<'r, 's, 't, S: System, C: Times> Service for Answering<'r, 's, 't, S, C> {
+impl<'a, 'r, 's, 't, S: System, C: Times> Service for Answering<'a, 'r, 's, 't, S, C> {
     ghost use Rattle.serve_core.specs.Answering.{AnswersOne};
 
     ghost answers = { AnswersOne S.outside C.says };
@@ -96,17 +96,32 @@ impl<'r, 's, 't, S: System, C: Times> Service for Answering<'r, 's, 't, S, C> {
     }
 }
 
-impl<'r, 's, 't, S: System, C: Times> Answering<'r, 's, 't, S, C> {
+impl<'a, 'r, 's, 't, S: System, C: Times> Answering<'a, 'r, 's, 't, S, C> {
     /// How many requests it has answered, at most 2^64 - 1.
     fn answered(&self) -> u64 {
         self.answered
+    }
+
+    /// Gives its timeline back.
+    fn end(self) -> &'t mut S::Timeline
+        ensures same { result.ghost_name ≡ self.entry.ground.timeline }
+        ensures since { OnlyReadsSince (S.outside self.entry.ground.system) result.now self.entry.ground.ready }
+    {
+        let Answering {
+            asked: _,
+            system: _,
+            timeline,
+            router: _router,
+            answered: _,
+        } = self;
+        timeline
     }
 }
 
 /// Has so many requests answered. The error comes where the listener can't wait, or memory is refused.
 fn answer_rounds<C: Clock, L: Listener + Drop, S: System, T: Times>(
     server: &mut Server<'_, C, L>,
-    service: &mut Answering<'_, '_, '_, S, T>,
+    service: &mut Answering<'_, '_, '_, '_, S, T>,
     requests: u64,
 ) -> io::Result<()>
     ensures { ServesCalls L.streams L.Reader.remaining L.Writer.contents (AnswersOne S.outside T.says) service.old service.new server.old server.new }
@@ -130,7 +145,7 @@ pub fn answer_requests<'r, C: Clock, L: Listener + Drop, S: System, T: Times>(
     router: Router<'r, '_, S, T>,
     system: &'r S,
     timeline: &mut S::Timeline,
-    asked: Asked<'r>,
+    asked: Asked<'_>,
 ) -> io::Result<()>
     requires one { AreOfOne router.answerer router.games }
     requires same { system.now ≡ router.answerer.disk.system.now }
@@ -146,13 +161,7 @@ pub fn answer_requests<'r, C: Clock, L: Listener + Drop, S: System, T: Times>(
         answered: 0,
     };
     let answered = answer_rounds(server, &mut service, asked.requests);
-    let Answering {
-        asked: _,
-        system: _,
-        timeline: _timeline,
-        router: _router,
-        answered: _,
-    } = service;
+    let _timeline = service.end();
     server.close();
     answered
 }

@@ -1,4 +1,4 @@
-//! The line that is noted of a request.
+//! Lines that are noted: of a request, and of what failed.
 
 ghost use Rattle.std.specs.Prelude.{◌≡◌, ◌++◌, IfOk, OnOk, codes, string_bytes};
 ghost use Rattle.serve_core.specs.Logging.{asked_words, request_line, sent_size};
@@ -51,5 +51,20 @@ pub fn request_line(
     let mut line = asked_words(alloc, request)?;
     add_number(&mut line, response.status.as_u16())?;
     add_number(&mut line, sent_size(request.method().as_str(), response))?;
+    Ok(line)
+}
+
+/// A line that says of something why it failed.
+pub(crate) fn line_why(
+    alloc: Global,
+    subject: &str,
+    says: &str,
+    why: &str,
+) -> Result<String, AllocError>
+    ensures { IfOk result (λ line. string_bytes line ≡ (subject.now ++ says.now) ++ why.now) }
+{
+    let mut line = String::from_str(alloc, subject)?;
+    line.push_str(says)?;
+    line.push_str(why)?;
     Ok(line)
 }

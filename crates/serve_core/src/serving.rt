@@ -7,6 +7,7 @@ ghost use Rattle.serve_core.specs.Refusals.{unbound_in};
 ghost use Rattle.serve_core.specs.Serve.{MayNote, NotesUnbound, Serves, unbound_front};
 ghost use Rattle.timeline.specs.Outsides.{AddsSome};
 
+use crate::logging::line_why;
 use crate::pages::{Bound, Pages};
 use crate::refusals::Unbound;
 use crate::task::{Serving, serve_task};
@@ -100,7 +101,10 @@ impl<'r, R: Clock + Net + RandomSource> Pages for SystemPages<'r, R> {
 fn unbound_line(alloc: Global, address: &str, error: &io::Error) -> Result<String, AllocError>
     ensures { IfOk result (λ line. (why : List ℕ) × (string_bytes line ≡ unbound_front address.now ++ why)) }
 {
-    format!(in alloc; "{address} can't be bound: {error}")
+    match format!(in alloc; "{error}") {
+        Ok(why) => line_why(alloc, address, " can't be bound: ", why.as_str()),
+        Err(refused) => Err(refused),
+    }
 }
 
 /// Notes why an address can't be bound.

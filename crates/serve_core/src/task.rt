@@ -13,6 +13,7 @@ ghost use Rattle.system_io.specs.Reading.{read_fault_of};
 ghost use Rattle.timeline.specs.Outsides.{AddsSome};
 
 use crate::answering::{Asked, answer_requests};
+use crate::logging::line_why;
 use crate::pages::Bound;
 use crate::refusals::Unbound;
 use answer_parts::{Refusal, print_refusal};
@@ -104,7 +105,10 @@ fn put_out<S: System>(system: &S, timeline: &mut S::Timeline, text: &str) -> Res
 fn lost_line(alloc: Global, error: &io::Error) -> Result<String, AllocError>
     ensures { IfOk result (λ line. (why : List ℕ) × (string_bytes line ≡ lost_front ++ why)) }
 {
-    format!(in alloc; "requests can't be awaited: {error}")
+    match format!(in alloc; "{error}") {
+        Ok(why) => line_why(alloc, "requests", " can't be awaited: ", why.as_str()),
+        Err(refused) => Err(refused),
+    }
 }
 
 /// Notes why the system can't wait for requests any more.

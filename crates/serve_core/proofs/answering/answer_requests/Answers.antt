@@ -19,5 +19,5 @@ returns-clause-replied g c =
 pub returns-clause-since : goal.returns-clause-since
 returns-clause-since g c =
     let rounds = c.answer_rounds-answered.ensures in
-    let same = ap (λ v. v.ground) c.service.view_is ∙ ground_stays g.S.System.outside g.T.Times.says rounds.0 _ _ rounds.1 in
-    since_end g.S.System.outside _ _ _ _ same c.service.invariant.since (c.timeline-1.given.1 (sym (ap (λ x. x.timeline) same)))
+    let stays = ground_stays g.S.System.outside g.T.Times.says rounds.0 _ _ rounds.1 in
+    since_end g.S.System.outside _ _ _ _ stays c.end-timeline.ensures.since (c.timeline-1.given.1 (sym (c.end-timeline.ensures.same ∙ ap (λ x. x.timeline) stays)))

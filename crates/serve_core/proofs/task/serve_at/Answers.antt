@@ -1,5 +1,6 @@
-use Rattle.std.proofs.Common.{◌∙◌, inl, inr, refl}
-use Rattle.serve_core.proofs.ServeLaws.{all_answered, fault_is_refused, is_lost, not_out}
+use Rattle.std.proofs.Common.{◌∙◌, ◌∷◌, [], inl, inr, refl}
+use Rattle.line_teller.specs.ToldLines.{refused_memory}
+use Rattle.serve_core.proofs.ServeLaws.{all_answered, fault_is_refused, is_lost, no_room, not_out, one_is_refused}
 use Rattle.serve_core.proofs.task.serve_at.Goals as goal
 
 pub returns-in-Err-clause-made : goal.returns-in-Err-clause-made
@@ -25,3 +26,9 @@ returns-in-Ok-answer_requests-clause-replied g c = inl c.answer_requests.ensures
 
 pub returns-clause-replied : goal.returns-clause-replied
 returns-clause-replied g c = inl c.answer_requests.ensures.replied
+
+pub returns-in_default-clause-made : goal.returns-in_default-clause-made
+returns-in_default-clause-made g c = no_room (g.S.System.outside c.args.by.now.system.now) _ _ c.print_refusal.result c.print_refusal.ensures.made
+
+pub returns-in_default-clause-replied : goal.returns-in_default-clause-replied
+returns-in_default-clause-replied g c = inr (refl, one_is_refused (g.S.System.outside c.args.by.now.system.now) _ _ (refused_memory ∷ []) c.print_refusal.result c.print_refusal.ensures.made)

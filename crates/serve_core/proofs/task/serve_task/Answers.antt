@@ -1,4 +1,5 @@
-use Rattle.std.proofs.Common.{ap, inl, inr, refl}
+use Rattle.std.proofs.Common.{◌∷◌, [], ap, inl, inr, refl}
+use Rattle.answer_parts.specs.Lines.{refusal_words}
 use Rattle.move_msg.specs.ToldBy.{told_by}
 use Rattle.serve_core.proofs.ServeLaws.{folder_open, folder_refused, one_is_refused, refused_so, told_at}
 use Rattle.serve_core.specs.Serve.{IsRefused, OfFolder, manifest_path}
@@ -8,7 +9,7 @@ pub returns-in-Err-clause-made : goal.returns-in-Err-clause-made
 returns-in-Err-clause-made g c = IsRefused (refused_so (g.S.System.outside c.args.by.now.system.now) c.args.task.now _ _ _ c.in-Err.refusal _ c.in-Err.ensures c.print_refusal.ensures.made)
 
 pub returns-in-Err-clause-replied : goal.returns-in-Err-clause-replied
-returns-in-Err-clause-replied g c = inr (refl, one_is_refused (g.S.System.outside c.args.by.now.system.now) _ _ _ _ c.print_refusal.ensures.made)
+returns-in-Err-clause-replied g c = inr (refl, one_is_refused (g.S.System.outside c.args.by.now.system.now) _ _ (refusal_words c.in-Err.refusal ∷ []) c.print_refusal.result c.print_refusal.ensures.made)
 
 pub serve_folder_if-requires : goal.serve_folder_if-requires
 serve_folder_if-requires g c = ap (λ d. d.system.now) c.in-Ok-open.ensures.disk
@@ -38,4 +39,4 @@ returns-clause-made g c =
     (folder_refused o c.args.task.now _ _ _ c.in-Ok.manifest c.in-Err-open.fault c.unread.result c.unread.ensures.is c.in-Ok.ensures c.in-Err-open.ensures.made) c.print_refusal-in-Err-open.ensures.made)
 
 pub returns-clause-replied : goal.returns-clause-replied
-returns-clause-replied g c = inr (refl, one_is_refused (g.S.System.outside c.args.by.now.system.now) _ _ _ _ c.print_refusal-in-Err-open.ensures.made)
+returns-clause-replied g c = inr (refl, one_is_refused (g.S.System.outside c.args.by.now.system.now) _ _ (refusal_words c.unread.result ∷ []) c.print_refusal-in-Err-open.result c.print_refusal-in-Err-open.ensures.made)
