@@ -133,8 +133,8 @@ fn leaves_what_another_process_writes(rt: HostRuntime) {
     make_folder(&rt, SHARED);
     let file = fs::create(&rt, SHARED_BESIDE).expect(&rt, "a file");
     check_same(&rt, file.try_lock().is_ok(), true, "a lock");
-    let mut keeper = keeper_at(&rt, SHARED_KEPT).ok().expect(&rt, "a keeper");
-    check_same(&rt, put_into(&mut keeper, b"mine"), Ok(()), "a put");
+    let done = is_put(rt.alloc(), &mut file_at(&rt, SHARED_KEPT), b"mine");
+    check_same(&rt, done, true, "a put");
     let stands = fs::exists(&rt, SHARED_BESIDE).expect(&rt, "a folder");
     check_same(&rt, stands, true, SHARED_BESIDE);
     let kept = fs::read(&rt, SHARED_KEPT).expect(&rt, "a file");
