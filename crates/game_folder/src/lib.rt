@@ -17,8 +17,9 @@
 //! `StoreGames`, each with all that is known of an instance (`folder_games_facts`, `one_game_facts`, `store_games_facts`).
 //!
 //! - CLAIM: `Draft`, clause `facts`: a put succeeds, and its bytes are to be put where the record is kept.
-//! - CLAIM: all three, clauses `facts`: a game that is found stands in its file on the disk, or the cause why none does is there (`StandsOn`); what
-//!   a start over a file gives is known of the file (`IsKnownOfFile`), what the store has of the store (`kept_bytes`, `Stores`).
+//! - CLAIM: `FolderGames`, `OneGame`, `StoreGames`, clauses `facts`: a game that is found stands in its file on the disk, or the cause why
+//!   none does is there (`StandsOn`); what a start over a file gives is known of the file (`IsKnownOfFile`), what the store has of the store
+//!   (`kept_bytes`, `Stores`).
 //! - CLAIM: `FolderGames`, clauses `facts`, `told`, `lacks`: one look at `STAMP.game` tells the game that its bytes spell, or the first line
 //!   at fault; `NoGame` is said only where it can't be read or has more than 192 bytes. A record is what a start found in `STAMP.kept`. What
 //!   a game puts is put there at once, by one put, and whether that failed is told. A commit does nothing. Refused memory has no cause.

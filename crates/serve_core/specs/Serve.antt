@@ -76,8 +76,8 @@ pub data Begins (why : Option Unbound) (events : List Event) (status : Option �
 
 -- ---- while they are
 
--- where events are recorded: since this text was written and went out nothing came but that folders were listed, files were read or looked
--- for, and lines were noted
+-- Where events are recorded, they end with this text, which was written and went out, and then folders were listed, files were read or looked
+-- for, and lines were noted, and nothing else. What came before isn't said.
 abbrev pub OnlyReadsSince : {T P F K S L : Type 0} → Outside T P F K S L → T → List ℕ → Type 0
 OnlyReadsSince o t text = IfSome (o.events t) (λ all. (before : List Event) × (more : List Event) × (all ≡ before ++ (Wrote Output text ∷ Flushed Output ∷ more)) × AreReadings more)
 
@@ -89,8 +89,8 @@ TellsLost u events status = (noting : List Event) × MayNote lost_front noting �
 
 -- ---- all of it
 
--- With an open folder, from one moment to a later one: no request is awaited; or the address goes out, and then requests are answered; in the
--- end all are that were to be, or they can't be awaited any more.
+-- With an open folder, from one moment to a later one: no request is awaited; or the address goes out, and then requests are answered, in the
+-- end as many as were to be (which is no part of this), or they can't be awaited any more.
 pub data ServesFolder {T P F K S L : Type 0} (o : Outside T P F K S L) (why : Option Unbound) (before after : T) (r : Result ℕ WriteFault) : Type 0 where
   NotAwaited : AddsSome o before after (Performs (Begins why) r) → ServesFolder o why before after r
   AllAnswered : (address : List ℕ) (ready : T) → why ≡ None → Adds o before ready (Wrote Output (ready_line address) ∷ Flushed Output ∷ []) → OnlyReadsSince o after (ready_line address)
@@ -108,7 +108,8 @@ abbrev pub NotesUnbound : List ℕ → Option Unbound → List Event → Type 0
 NotesUnbound address None events = events ≡ []
 NotesUnbound address (Some u) events = MayNote (unbound_front address) events
 
--- THE CONTRACT OF `serve`, up to the output's end: the address is bound, or it is noted that it isn't, before all else
+-- THE CONTRACT OF `serve`, up to the output's end: for this reason no address is bound, or one is; where none is, that may be noted, before all
+-- else
 pub record Serves {T P F K S L : Type 0} (o : Outside T P F K S L) (t : Serve) (before after : T) (r : Result ℕ WriteFault) : Type 0 where
   pub why : Option Unbound
   pub noted : T

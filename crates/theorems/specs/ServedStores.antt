@@ -78,7 +78,7 @@ pub record StoreServer {T P F K S L : Type 0} (o : Outside T P F K S L) (game : 
   -- premise (who writes the folder of games): no record of the game is imported from its file
   pub imports : AllByRecursion (λ r. NoneCommitted place.store_path game.stamp r.first) runs
   pub past : List Event
-  -- premise (who else writes the store, the disk): nothing of the game is found at first, and the store is durable
+  -- premise (who else writes the store, the disk): an earlier start looked for the game there and found nothing, and the store is durable
   pub none : (found : Option (List ℕ)) → MayFind (InStore place.store_path) game.stamp past found → found ≡ None
   pub durable : IsDurableAfter (InStore place.store_path) game.stamp past (events_of_all runs)
   pub found : Option (List ℕ)
