@@ -39,7 +39,7 @@ pub(crate) fn ready_line<S: System>(
     }
 }
 
-/// The same where it is wanted, and none where it isn't.
+/// The line that tells the address of a port, where it is wanted. The error comes where the address isn't known or memory is refused.
 pub(crate) fn ready_if<S: System>(
     alloc: Global,
     system: &S,
