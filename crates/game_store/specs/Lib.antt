@@ -7,3 +7,4 @@ pub mod Tables
 pub mod Files
 pub mod Listing
 pub mod Places
+pub mod Opening

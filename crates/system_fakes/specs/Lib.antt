@@ -4,5 +4,6 @@ pub mod MemoryInputs
 pub mod MemoryPorts
 pub mod MemorySockets
 pub mod MemoryCalls
+pub mod MemoryFiles
 pub mod PowerLosses
 pub mod DiskLaws

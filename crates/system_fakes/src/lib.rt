@@ -11,14 +11,17 @@
 //!   (`Passage`)
 //! - `MemorySocket`: a socket for `UdpPort`, at which datagrams come (`Arrival`); it records its calls (`MadeSocketCall`)
 //! - `MemoryCalls`: the calls for a `CallLog` file; it records them (`MadeCall`)
+//! - `MemoryHandle`, `MemoryPaths`: an open file that knows whether it was synced and locked, and paths with what stands there
 //! - `DiskFile`: a file on a disk that loses power (`Crash`). A call of it may fail before, halfway or after (`Outcome`). `read_after`
 //!   is what a start reads then
 //!
-//! Definitions, in reading order: `MemoryDisks`, `MemoryInputs`, `MemoryPorts`, `MemorySockets`, `MemoryCalls`, `PowerLosses`;
-//! `MemoryDiskLaws`, `DiskLaws`. Its tests stand in `checks_io`, and those of an arbiter over a `DiskFile` in `checks_games`.
+//! Definitions, in reading order: `MemoryDisks`, `MemoryInputs`, `MemoryPorts`, `MemorySockets`, `MemoryCalls`, `MemoryFiles`,
+//! `PowerLosses`; `MemoryDiskLaws`, `DiskLaws`. Its tests stand in `checks_io`, and those of an arbiter over a `DiskFile` in
+//! `checks_games`.
 //!
-//! - CLAIM: `MemoryDisk`, `MemoryInput`, clauses `facts`, `one`; `MemoryLines`, `MemoryPort`, `MemoryCalls`, clause `facts`;
-//!   `MemorySocket`, clause `calls`: each does what its trait says, by what it holds and what it has recorded.
+//! - CLAIM: `MemoryDisk`, `MemoryInput`, clauses `facts`, `one`; `MemoryLines`, `MemoryPort`, `MemoryCalls`, `MemoryHandle`,
+//!   `MemoryPaths`, clause `facts`; `MemorySocket`, clause `calls`: each does what its trait says, by what it holds and what it has
+//!   recorded.
 //! - CLAIM: `DiskFile`, clauses `facts`, `one`; `DiskFile::stop`, clauses `left`, `rest`, `same`; `read_after`, clauses `left`,
 //!   `one`: a file on a disk that loses power does what `KeptFile` says, and what is read after a loss of power is what it left.
 #![tactic(auto)]
@@ -26,6 +29,7 @@
 mod disk_file;
 mod memory_calls;
 mod memory_disk;
+mod memory_files;
 mod memory_input;
 mod memory_port;
 mod memory_socket;
@@ -34,6 +38,7 @@ mod texts;
 pub use disk_file::{Crash, DiskFile, Outcome, read_after};
 pub use memory_calls::{MadeCall, MemoryCalls};
 pub use memory_disk::{AtPath, MemoryDisk};
+pub use memory_files::{MemoryHandle, MemoryPaths};
 pub use memory_input::{MemoryInput, MemoryLines};
 pub use memory_port::{MemoryPort, Passage, Turn};
 pub use memory_socket::{Arrival, MadeSocketCall, MemorySocket};

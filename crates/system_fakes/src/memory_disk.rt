@@ -17,7 +17,7 @@ pub struct AtPath<'a, T: Copy> {
 }
 
 /// The first entry at a path.
-fn found<'a, T: Copy>(all: &[AtPath<'a, T>], path: &str) -> Option<T>
+pub(crate) fn found<'a, T: Copy>(all: &[AtPath<'a, T>], path: &str) -> Option<T>
     ensures found { IfSome result (IsFoundAt (λ e. e.path.now) (λ e. e.holds) all.now path.now) }
     ensures nowhere { IfNone result (IsNowhere (λ e. e.path.now) all.now path.now) }
 {

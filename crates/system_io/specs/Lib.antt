@@ -16,7 +16,10 @@ pub mod TraceLaws
 pub mod Hosts
 pub mod Recipients
 pub mod Records
+pub mod Handles
 pub mod Places
+pub mod BesideFiles
+pub mod SystemFiles
 pub mod Premises
 pub mod Sockets
 pub mod UdpPorts

@@ -29,7 +29,7 @@ IsAtPath path file = AreFor path file.calls
 
 -- the file that is locked is the one at this path
 abbrev pub Locks : List ℕ → LockFile → Type 0
-Locks path lock = string_bytes lock.path ≡ path
+Locks path lock = string_bytes lock.locked.path ≡ path
 
 -- the name of a file beside the one at a path, by its place among those names: `.new` behind the path, from place 2 on with a dot and the
 -- place before that

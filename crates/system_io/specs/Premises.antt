@@ -3,6 +3,7 @@
 use Rattle.std.specs.Prelude.{◌≡◌, ℕ, Bool, true, false, List, [], ◌∷◌, Option, None}
 use Rattle.system_io.specs.Disks.{DiskFacts}
 use Rattle.system_io.specs.FileCalls.{CallFacts}
+use Rattle.system_io.specs.Handles.{HandleFacts, PathFacts}
 use Rattle.system_io.specs.Inputs.{InputFacts}
 use Rattle.system_io.specs.LineReaders.{LineFacts}
 use Rattle.system_io.specs.Outputs.{OutputFacts}
@@ -49,6 +50,23 @@ system_port faults addresses = record { passed = None; faults = faults; addresse
 
 -- BESIDE: a file that is made where nothing stands, and then locked, is written by no other process while it is locked; nothing else is
 -- opened to be written, but for files that are locked, to which nothing is written
+-- HANDLES: bytes that the system takes are in the file, in that order and once each; where a sync returns, they are on the disk; where a
+-- lock is given, this process has it; a file has the numbers and names that the system tells of it
+abbrev pub system_handle : HandleFacts
+system_handle = record {
+  holds = λ _. Unit {0};
+  is_synced = Unit {0};
+  is_locked = Unit {0};
+  is_linked = Unit {0};
+  is_numbered = λ _. Unit {0};
+  is_made_at = λ _. Unit {0};
+}
+
+-- PATHS: at a path stands what the system tells, a rename that returns has given the name, and where the sync of a folder returns, its
+-- names are on the disk
+abbrev pub system_paths : PathFacts
+system_paths = record { names = λ _ _. Unit {0}; renames = λ _ _. Unit {0}; syncs = λ _. Unit {0} }
+
 -- CALLS: a read or a sync that the system refuses can't be done, and where it says that memory was refused, memory was
 -- refused
 abbrev pub system_calls : CallFacts

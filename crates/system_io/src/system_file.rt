@@ -1,34 +1,38 @@
 //! A file of the system, and the file beside it.
 
 ghost use Rattle.std.specs.IoError.{error_kind, raw_os_error};
-ghost use Rattle.std.specs.Prelude.{IfOk};
+ghost use Rattle.std.specs.Prelude.{◌≡◌, ◌≤◌, ◌∷◌, [], IfErr, IfOk, IfSome, OnOk, length, string_bytes};
 ghost use Rattle.system_io.specs.Places.{AreFor, IsAtPath};
 ghost use Rattle.system_io.specs.Reading.{IsAbsentOr};
 
-use crate::beside_file::{BesideFile, clear};
+use crate::beside_file::{
+    Synced, Written, clear, remove_synced, remove_written, rename, sync, write_beside,
+};
 use crate::call_log::{CallLog, FileCalls};
+use crate::handles::{FileHandle, FilePaths};
 use crate::kept_file::MOST_KEPT_BYTES;
 use crate::notes::tell_refused;
-use crate::opening::{open_regular, unopened};
+use crate::opening::unopened;
 use crate::reading::{ReadFault, read_at_most, unread};
 use std::alloc::{AllocError, Global};
 use std::fs::File;
+use std::io;
 use std::io::Write;
 use std::rt::Files;
-use std::{fs, io};
 
 /// The calls of the system for a file by its path. The file beside it is this process's own: it is made where nothing stands, under
 /// that path with `.new` appended, or with a number from 2 to 16 before that, and stays locked until it takes the name.
 ///
 /// Of the first call that fails a line is written: the path in double quotes, escaped, and what the system says.
 #[derive(Drop)]
-pub struct SystemCalls<'a, R: Files<File = File> + AllocGlobal, W: Write + Copy + Drop> {
+pub struct SystemCalls<'a, R: FilePaths + AllocGlobal, W: Write + Copy + Drop> {
     rt: &'a R,
     alloc: Global,
     notes: W,
     path: String,
     is_told: bool,
-    beside: Option<BesideFile>,
+    written: Option<Written<R::Handle>>,
+    synced: Option<Synced<R::Handle>>,
     is_clear: bool,
 }
 
@@ -47,18 +51,9 @@ fn is_absent(error: &io::Error) -> bool {
     error.kind() == io::ErrorKind::NotFound
 }
 
-/// The path of the folder in which a file stands.
-fn folder_of(path: &str) -> &str {
-    match path.rfind('/') {
-        None => ".",
-        Some(0) => "/",
-        Some(end) => &path[..end],
-    }
-}
-
 impl<'a, R, W> SystemCalls<'a, R, W>
 where
-    R: Files<File = File> + AllocGlobal,
+    R: FilePaths + AllocGlobal,
     W: Write + Copy + Drop,
 {
     /// The calls for the file at a path, with a writer for notes.
@@ -77,7 +72,8 @@ where
             notes,
             path,
             is_told: false,
-            beside: None,
+            written: None,
+            synced: None,
             is_clear: false,
         })
     }
@@ -85,7 +81,7 @@ where
 
 impl<'a, R, W> SystemCalls<'a, R, W>
 where
-    R: Files<File = File> + AllocGlobal,
+    R: FilePaths + AllocGlobal,
     W: Write + Copy + Drop,
 {
     /// Before the first file beside is made, removes what ended processes have left.
@@ -98,8 +94,11 @@ where
 
     /// Removes the file beside, if there is one.
     fn remove_beside(&mut self) {
-        if let Some(beside) = self.beside.take() {
-            beside.remove(self.rt);
+        if let Some(written) = self.written.take() {
+            remove_written(self.rt, written);
+        }
+        if let Some(synced) = self.synced.take() {
+            remove_synced(self.rt, synced);
         }
     }
 
@@ -126,7 +125,7 @@ where
             self.tell(&error);
             return Err(unopened(error));
         }
-        if fs::symlink_metadata(self.rt, self.path.as_str()).is_ok() {
+        if self.rt.number_at(self.path.as_str()).is_ok() {
             self.tell(&error);
             return Err(ReadFault::Unreadable);
         }
@@ -135,27 +134,24 @@ where
             Err(fault) => Err(fault),
         }
     }
-
-    /// Removes the file beside where a call for it has failed, which is told.
-    fn or_remove(&mut self, done: io::Result<()>) -> io::Result<()> {
-        if done.is_err() {
-            self.remove_beside();
-        }
-        self.told(done)
-    }
 }
 
 impl<'a, R, W> FileCalls for SystemCalls<'a, R, W>
 where
-    R: Files<File = File> + AllocGlobal,
+    R: FilePaths + AllocGlobal,
     W: Write + Copy + Drop,
 {
+    ghost use Rattle.std.specs.IoError.{error_kind};
+    ghost use Rattle.system_io.specs.FileCalls.{Failed, RenameFailed, Renamed, SyncedFile, SyncedFolder, Wrote, call_by_answer};
+    ghost use Rattle.system_io.specs.Histories.{Passes};
     ghost use Rattle.system_io.specs.Premises.{system_calls};
+    ghost use Rattle.system_io.specs.Reading.{read_fault_of};
+    ghost use Rattle.system_io.specs.SystemFiles.{HasName, HasSynced, HasWritten};
 
     ghost facts = { λ _. system_calls };
 
     fn read(&mut self, alloc: Global) -> Result<Option<Vec<u8>>, ReadFault> {
-        let (file, regular) = match open_regular(self.rt, self.path.as_str()) {
+        let (mut file, length) = match self.rt.open_to_read(self.path.as_str()) {
             Ok(opened) => opened,
             Err(error) => {
                 return match self.unless_none_stands(error) {
@@ -164,8 +160,8 @@ where
                 };
             }
         };
-        self.told(file.sync_all())?;
-        match read_at_most(alloc, file, regular.len(), MOST_KEPT_BYTES as u64) {
+        self.told(file.sync())?;
+        match read_at_most(alloc, file, length, MOST_KEPT_BYTES as u64) {
             Ok(bytes) => Ok(Some(bytes)),
             Err(fault) => {
                 self.tell(&unread(fault));
@@ -174,42 +170,59 @@ where
         }
     }
 
-    fn write(&mut self, bytes: &[u8]) -> io::Result<()> {
+    fn write(&mut self, bytes: &[u8]) -> io::Result<()>
+        ensures made { Passes system_calls.made system_calls.made (call_by_answer result (Wrote bytes.now) Failed ∷ []) }
+        ensures beside { OnOk result (HasWritten R.Handle.facts (string_bytes self.new.path) bytes.now self.new.written) }
+    {
         self.remove_beside();
         self.clear_once();
-        let mut beside = match BesideFile::make(self.rt, self.alloc, self.path.as_str()) {
-            Ok(beside) => beside,
-            Err(error) => return self.told(Err(error)),
-        };
-        let written = beside.write(bytes);
-        self.beside = Some(beside);
-        self.or_remove(written)
+        match write_beside(self.rt, self.alloc, self.path.as_str(), bytes) {
+            Ok(written) => {
+                self.written = Some(written);
+                Ok(())
+            }
+            Err(error) => self.told(Err(error)),
+        }
     }
 
-    fn sync(&mut self) -> io::Result<()> {
-        let synced = match &self.beside {
-            Some(beside) => beside.sync(),
-            None => Err(io::Error::from(io::ErrorKind::NotFound)),
+    fn sync(&mut self) -> io::Result<()>
+        ensures made { Passes system_calls.made system_calls.made (call_by_answer result SyncedFile Failed ∷ []) }
+        ensures synced { OnOk result (HasSynced R.Handle.facts self.old.written self.new.synced) }
+    {
+        let Some(written) = self.written.take() else {
+            return self.told(Err(io::Error::from(io::ErrorKind::NotFound)));
         };
-        self.or_remove(synced)
+        match sync(self.rt, written) {
+            Ok(synced) => {
+                self.synced = Some(synced);
+                Ok(())
+            }
+            Err(error) => self.told(Err(error)),
+        }
     }
 
-    fn rename(&mut self) -> io::Result<()> {
-        let renamed = match &self.beside {
-            Some(beside) => beside.rename(self.rt, self.path.as_str()),
-            None => Err(io::Error::from(io::ErrorKind::NotFound)),
+    fn rename(&mut self) -> io::Result<()>
+        ensures made { Passes system_calls.made system_calls.made (call_by_answer result Renamed RenameFailed ∷ []) }
+        ensures renamed { OnOk result (HasName (R.facts self.old.rt.now) (string_bytes self.old.path) self.old.synced) }
+    {
+        let Some(synced) = self.synced.take() else {
+            return self.told(Err(io::Error::from(io::ErrorKind::NotFound)));
         };
-        self.or_remove(renamed)?;
-        self.beside = None;
-        Ok(())
+        match rename(self.rt, synced, self.path.as_str()) {
+            Ok(()) => Ok(()),
+            Err(error) => self.told(Err(error)),
+        }
     }
 
-    fn sync_folder(&mut self) -> io::Result<()> {
-        let synced = match fs::open(self.rt, folder_of(self.path.as_str())) {
-            Ok(folder) => folder.sync_all(),
-            Err(error) => Err(error),
-        };
-        self.told(synced)
+    fn sync_folder(&mut self) -> io::Result<()>
+        ensures made { Passes system_calls.made system_calls.made (call_by_answer result SyncedFolder Failed ∷ []) }
+        ensures cause { IfErr result (λ e. system_calls.fails (read_fault_of (error_kind e))) }
+        ensures synced { OnOk result ((R.facts self.old.rt.now).syncs (string_bytes self.old.path)) }
+    {
+        match self.rt.sync_folder_of(self.path.as_str()) {
+            Ok(()) => Ok(()),
+            Err(error) => self.told(Err(error)),
+        }
     }
 }
 
