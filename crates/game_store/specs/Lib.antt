@@ -7,4 +7,3 @@ pub mod Tables
 pub mod Files
 pub mod Listing
 pub mod Places
-pub mod Opening

@@ -11,7 +11,7 @@ ghost use Rattle.game_store.specs.Shelves.{HoldsGames, IsOpen, IsTrusted, Leaves
 ghost use Rattle.game_store.specs.Files.{FindsBatch, FindsGames, HoldsGamesAlone, LeavesGames, NextOpenFinds};
 
 use crate::fault::DatabaseFault;
-use crate::open_fault::{OpenFault, connected, filled};
+use crate::open_fault::OpenFault;
 use crate::store::Store;
 use sqlite::{Connection, FileFrom, FileStore, Files, Leftover, Options, Start};
 use sqlite_disk::Disk;
@@ -97,10 +97,13 @@ impl<S: Start> Store<FileStore<FileFrom<S>>> {
         ensures lasts { IfOk result (λ store. IsTrusted over_files store → Leaves over_files store (λ db. HoldsGames db (committed over_files store))) }
         ensures has { IfOk result (λ store. IsTrusted over_files store → AreSame (remembered store) (committed over_files store)) }
     {
-        let conn = match connected(Connection::open_from(rt, path, false, start)) {
+        let conn = match Connection::open_from(rt, path, false, start) {
             Ok(conn) => conn,
-            Err(fault) => return Err(fault),
+            Err(why) => return Err(OpenFault::of_opening(why)),
         };
-        filled(Store::over(rt.alloc(), conn))
+        match Store::over(rt.alloc(), conn) {
+            Ok(store) => Ok(store),
+            Err(why) => Err(OpenFault::of_reading(why)),
+        }
     }
 }

@@ -5,18 +5,19 @@
 //! record with named fields, are all that a proof sees of it. Beside it stands the system's own instance (`SystemDisk`, `SystemInput`,
 //! `BufferedOutput`, `UdpPort`, `SystemFile`, `SystemHost`); those in memory, for tests and laws, are in `system_fakes`.
 //! `specs/Premises.antt` says what is trusted of the system. `SystemFile` is `CallLog` over the system's calls (`FileCalls`): what a
-//! start finds follows from the calls that it made and their results.
+//! start finds follows from the calls that it made and their results. They work over `FileHandle` and `FilePaths`, which say of an open
+//! file that it was written, synced or locked, and what stands at a path; the system's instances of these are a call each (`handles`).
 //! Of the system's files what is no regular one is refused before it is opened (`opening`), and what is opened to be written is
 //! made where nothing stands (`beside_file`). A `Port` sends each datagram to each of its addresses in turn, and a send that fails
 //! keeps none of the others back. Where nothing came in time, its traffic has the wait that was asked for (`Quiet`). `UdpPort` is
 //! over a `Socket`; among its addresses `sender` stands for whoever sent the last datagram.
 //!
 //! Inside: `disk`, `system_disk`, `descriptors`; `input`, `line_reader`, `bounded_lines`, `reading`, `system_input`; `output`; `port`,
-//! `recipient`, `socket`, `udp_port`, `shared_wait`; `kept_file`, `call_log`, `system_file`, `lock_file`; `record_store`; `host`,
+//! `recipient`, `socket`, `udp_port`, `shared_wait`; `kept_file`, `call_log`, `handles`, `beside_file`, `system_file`, `locked`, `lock_file`; `record_store`; `host`,
 //! `system_host`, `notes`; `laws`.
 //!
 //! Definitions, in reading order: `Failures`, `Histories`, `Reading`, `Descriptors`, `Disks`, `Inputs`, `LineReaders`, `ShortLines`,
-//! `Outputs`, `Ports`, `KeptFiles`, `FileCalls`, `Traces`, `Hosts`, `Recipients`, `Records`, `Places`, `Premises`, `Sockets`, `UdpPorts`,
+//! `Outputs`, `Ports`, `KeptFiles`, `FileCalls`, `Traces`, `Hosts`, `Recipients`, `Records`, `Handles`, `Places`, `BesideFiles`, `SystemFiles`, `Premises`, `Sockets`, `UdpPorts`,
 //! `Answers`; `OutputLaws`, `TraceLaws`, `HostLaws`. Its tests stand in `checks_io`; cases in `system.txt` and `disk.txt` of `rows`.
 //!
 //! - CLAIM: `end`: the output is flushed last, also where an answer was not written to its end. The status is the answer's where
@@ -47,6 +48,11 @@
 //!   is in the history that it is lent, in order, and nothing else is.
 //! - CLAIM: `RecordStore::put_all`, clause `refused`: where memory alone was refused, a store goes on as it was, and the batch comes back.
 //! - CLAIM: `Host::lock`, clauses `given`, `cause`; `SystemHost::lock`, clause `at`: the file that is locked is the one at the path.
+//! - CLAIM: `SystemCalls::write`, clause `beside`; `SystemCalls::sync`, clause `synced`; `SystemCalls::rename`, clause `renamed`;
+//!   `SystemCalls::sync_folder`, clause `synced`: at `Ok` all bytes stand in a new and locked file beside, that same file was synced, that
+//!   same file got the name, and the folder was synced, by what `FileHandle` and `FilePaths` say of each call.
+//! - CLAIM: `FilePaths::remove_at`: a file is removed only where this process made it, or has its lock and it stands there. `lock_at`: a
+//!   lock is of the file that stands at its path, by device and number.
 #![tactic(auto)]
 
 mod beside_file;
