@@ -6,3 +6,4 @@ pub mod AnswerLaws
 pub mod HearingLaws
 pub mod RecipientLaws
 pub mod ShortLineLaws
+pub mod FileSteps

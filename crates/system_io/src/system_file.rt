@@ -1,7 +1,7 @@
 //! A file of the system, and the file beside it.
 
 ghost use Rattle.std.specs.IoError.{error_kind, raw_os_error};
-ghost use Rattle.std.specs.Prelude.{◌≡◌, ◌≤◌, ◌∷◌, [], IfErr, IfOk, IfSome, OnOk, length, string_bytes};
+ghost use Rattle.std.specs.Prelude.{◌∷◌, [], IfErr, IfOk, OnOk, string_bytes};
 ghost use Rattle.system_io.specs.Places.{AreFor, IsAtPath};
 ghost use Rattle.system_io.specs.Reading.{IsAbsentOr};
 
@@ -110,12 +110,10 @@ where
         }
     }
 
-    /// What came of a call, which is told where it failed.
-    fn told(&mut self, done: io::Result<()>) -> io::Result<()> {
-        if let Err(error) = &done {
-            self.tell(error);
-        }
-        done
+    /// The error of a call that failed, which is told.
+    fn told(&mut self, error: io::Error) -> io::Error {
+        self.tell(&error);
+        error
     }
 
     /// Why the file wasn't opened, which is told, or that nothing stands at its path. A link that leads nowhere, as to a disk that isn't
@@ -160,7 +158,9 @@ where
                 };
             }
         };
-        self.told(file.sync())?;
+        if let Err(error) = file.sync() {
+            return Err(ReadFault::from(self.told(error)));
+        }
         match read_at_most(alloc, file, length, MOST_KEPT_BYTES as u64) {
             Ok(bytes) => Ok(Some(bytes)),
             Err(fault) => {
@@ -181,7 +181,7 @@ where
                 self.written = Some(written);
                 Ok(())
             }
-            Err(error) => self.told(Err(error)),
+            Err(error) => Err(self.told(error)),
         }
     }
 
@@ -190,14 +190,14 @@ where
         ensures synced { OnOk result (HasSynced R.Handle.facts self.old.written self.new.synced) }
     {
         let Some(written) = self.written.take() else {
-            return self.told(Err(io::Error::from(io::ErrorKind::NotFound)));
+            return Err(self.told(io::Error::from(io::ErrorKind::NotFound)));
         };
         match sync(self.rt, written) {
             Ok(synced) => {
                 self.synced = Some(synced);
                 Ok(())
             }
-            Err(error) => self.told(Err(error)),
+            Err(error) => Err(self.told(error)),
         }
     }
 
@@ -206,11 +206,11 @@ where
         ensures renamed { OnOk result (HasName (R.facts self.old.rt.now) (string_bytes self.old.path) self.old.synced) }
     {
         let Some(synced) = self.synced.take() else {
-            return self.told(Err(io::Error::from(io::ErrorKind::NotFound)));
+            return Err(self.told(io::Error::from(io::ErrorKind::NotFound)));
         };
         match rename(self.rt, synced, self.path.as_str()) {
             Ok(()) => Ok(()),
-            Err(error) => self.told(Err(error)),
+            Err(error) => Err(self.told(error)),
         }
     }
 
@@ -221,7 +221,7 @@ where
     {
         match self.rt.sync_folder_of(self.path.as_str()) {
             Ok(()) => Ok(()),
-            Err(error) => self.told(Err(error)),
+            Err(error) => Err(self.told(error)),
         }
     }
 }
