@@ -7,6 +7,7 @@
 //! `specs/Premises.antt` says what is trusted of the system. `SystemFile` is `CallLog` over the system's calls (`FileCalls`): what a
 //! start finds follows from the calls that it made and their results. They work over `FileHandle` and `FilePaths`, which say of an open
 //! file that it was written, synced or locked, and what stands at a path; the system's instances of these are a call each (`handles`).
+//! `remove_at` asks that this process made the file there, or has its lock and it stands there.
 //! Of the system's files what is no regular one is refused before it is opened (`opening`), and what is opened to be written is
 //! made where nothing stands (`beside_file`). A `Port` sends each datagram to each of its addresses in turn, and a send that fails
 //! keeps none of the others back. Where nothing came in time, its traffic has the wait that was asked for (`Quiet`). `UdpPort` is
@@ -51,8 +52,7 @@
 //! - CLAIM: `SystemCalls::write`, clause `beside`; `SystemCalls::sync`, clause `synced`; `SystemCalls::rename`, clause `renamed`;
 //!   `SystemCalls::sync_folder`, clause `synced`: at `Ok` all bytes stand in a new and locked file beside, that same file was synced, that
 //!   same file got the name, and the folder was synced, by what `FileHandle` and `FilePaths` say of each call.
-//! - CLAIM: `FilePaths::remove_at`: a file is removed only where this process made it, or has its lock and it stands there. `lock_at`: a
-//!   lock is of the file that stands at its path, by device and number.
+//! - CLAIM: `lock_at`: a file that is locked stands at its path, by device and number, and this process has its lock.
 #![tactic(auto)]
 
 mod beside_file;
