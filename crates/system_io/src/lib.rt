@@ -7,19 +7,21 @@
 //! `specs/Premises.antt` says what is trusted of the system. `SystemFile` is `CallLog` over the system's calls (`FileCalls`): what a
 //! start finds follows from the calls that it made and their results. They work over `FileHandle` and `FilePaths`, which say of an open
 //! file that it was written, synced or locked, and what stands at a path; the system's instances of these are a call each (`handles`).
-//! `remove_at` asks that this process made the file there, or has its lock and it stands there.
+//! `remove_at` asks that this process made the file there, or has its lock and it stands there; what `lock_at` locks stands there, by
+//! device and number.
 //! Of the system's files what is no regular one is refused before it is opened (`opening`), and what is opened to be written is
 //! made where nothing stands (`beside_file`). A `Port` sends each datagram to each of its addresses in turn, and a send that fails
 //! keeps none of the others back. Where nothing came in time, its traffic has the wait that was asked for (`Quiet`). `UdpPort` is
 //! over a `Socket`; among its addresses `sender` stands for whoever sent the last datagram.
 //!
 //! Inside: `disk`, `system_disk`, `descriptors`; `input`, `line_reader`, `bounded_lines`, `reading`, `system_input`; `output`; `port`,
-//! `recipient`, `socket`, `udp_port`, `shared_wait`; `kept_file`, `call_log`, `handles`, `beside_file`, `system_file`, `locked`, `lock_file`; `record_store`; `host`,
-//! `system_host`, `notes`; `laws`.
+//! `recipient`, `socket`, `udp_port`, `shared_wait`; `kept_file`, `call_log`, `handles`, `beside_file`, `system_file`, `locked`,
+//! `lock_file`; `record_store`; `host`, `system_host`, `notes`; `laws`.
 //!
 //! Definitions, in reading order: `Failures`, `Histories`, `Reading`, `Descriptors`, `Disks`, `Inputs`, `LineReaders`, `ShortLines`,
-//! `Outputs`, `Ports`, `KeptFiles`, `FileCalls`, `Traces`, `Hosts`, `Recipients`, `Records`, `Handles`, `Places`, `BesideFiles`, `SystemFiles`, `Premises`, `Sockets`, `UdpPorts`,
-//! `Answers`; `OutputLaws`, `TraceLaws`, `HostLaws`. Its tests stand in `checks_io`; cases in `system.txt` and `disk.txt` of `rows`.
+//! `Outputs`, `Ports`, `KeptFiles`, `FileCalls`, `Traces`, `Hosts`, `Recipients`, `Records`, `Handles`, `Places`, `BesideFiles`,
+//! `SystemFiles`, `Premises`, `Sockets`, `UdpPorts`, `Answers`; `OutputLaws`, `TraceLaws`, `HostLaws`. Its tests
+//! stand in `checks_io`; cases in `system.txt` and `disk.txt` of `rows`.
 //!
 //! - CLAIM: `end`: the output is flushed last, also where an answer was not written to its end. The status is the answer's where
 //!   all has gone out; it is 1 in its place only where some can't, or an answer was cut.
@@ -52,7 +54,6 @@
 //! - CLAIM: `SystemCalls::write`, clause `beside`; `SystemCalls::sync`, clause `synced`; `SystemCalls::rename`, clause `renamed`;
 //!   `SystemCalls::sync_folder`, clause `synced`: at `Ok` all bytes stand in a new and locked file beside, that same file was synced, that
 //!   same file got the name, and the folder was synced, by what `FileHandle` and `FilePaths` say of each call.
-//! - CLAIM: `lock_at`: a file that is locked stands at its path, by device and number, and this process has its lock.
 #![tactic(auto)]
 
 mod beside_file;
