@@ -67,7 +67,7 @@ machine_outside disk input file_lines input_lines out_bytes errors_bytes out err
   file = λ f. file f.file;
   takes_memory = λ _. Unit {0};
   gives_lock = system_gives;
-  lock_path = λ lock. string_bytes lock.path;
+  lock_path = λ lock. string_bytes lock.locked.path;
   bars_lock = system_bars;
   store_path = λ s. string_bytes s.path;
   store = λ s. store s.store;
