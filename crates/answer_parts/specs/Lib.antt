@@ -1,10 +1,7 @@
 pub mod Lines
 pub mod Reply
-pub mod Telling
 pub mod JsonAnswers
 pub mod Asked
 pub mod Printing
 pub mod Looks
 pub mod Refusals
-pub mod Manifests
-pub mod Manifesting

@@ -1,12 +1,10 @@
 -- A folder of games (this project's own): of each game its file and its record, by its stamp.
-use Rattle.std.specs.Prelude.{◌⊎◌, ◌++◌, ◌∷◌, ℕ, List, codes}
+use Rattle.std.specs.Prelude.{◌++◌, ◌∷◌, ℕ, List, codes}
 use Rattle.hex.specs.Hex.{encode_lower}
 use Rattle.fen_text.specs.Written.{fen_of}
 use Rattle.move_msg.specs.Stamps.{stamp_of}
-use Rattle.system_io.specs.Disks.{AtFile, DiskFacts, HasMore}
-use Rattle.arbiter_server.specs.declared.folder.FindFault.{FindFault}
-use Rattle.arbiter_server.specs.declared.folder.FindFault.TheVariants.{NoGame, BadFile, OutOfMemory}
-use Rattle.arbiter_server.specs.GameFiles.{GameContents, IsFirstGameFault, SpellsGame}
+use Rattle.system_io.specs.Disks.{DiskFacts}
+use Rattle.arbiter_server.specs.GameFiles.{GameContents, SpellsGame}
 
 -- ---- paths
 
@@ -36,11 +34,3 @@ pub record HasGame (disk : DiskFacts) (folder stamp : List ℕ) (g : GameContent
   pub text : List ℕ
   pub held : disk.holds (game_path folder stamp) text
   pub spells : SpellsGame text g
-
--- why it has none: the file can't be read, or has more bytes than a game's; a line is at fault; or memory was refused
-abbrev pub LacksGame : DiskFacts → List ℕ → List ℕ → FindFault → Type 0
-LacksGame disk folder stamp NoGame =
-    disk.fails (AtFile (game_path folder stamp)) ⊎ HasMore disk (game_path folder stamp) most_game_bytes
-LacksGame disk folder stamp (BadFile fault) =
-    (text : List ℕ) × disk.holds (game_path folder stamp) text × IsFirstGameFault text fault
-LacksGame disk folder stamp OutOfMemory = Unit {0}

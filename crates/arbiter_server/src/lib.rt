@@ -21,8 +21,7 @@
 //! - CLAIM: `read_game`, clauses `ok`, `err`, `only`; `write_game`, clauses `text`, `spells`; `GameFileFault::line`;
 //!   `delay_of_digit`, clauses `some`, `none`: a game's file is read exactly where it spells a game, and otherwise the first line
 //!   at fault is reported. A delay is one digit from 0 to 8.
-//! - CLAIM: `game_path`; `kept_path`; `find_game`, clauses `ok`, `err`: a game is found only where its file spells it; otherwise
-//!   the file can't be read, has more than 192 bytes, or is at fault at this line, or memory was refused.
+//! - CLAIM: `game_path`; `kept_path`: the file of a game and its record stand in a folder under the game's stamp.
 #![tactic(auto)]
 
 mod config;
@@ -40,7 +39,7 @@ mod line_log;
 pub use config::ServerConfig;
 pub use datagram_report::{DatagramReport, ReportText, verdict_or_none};
 pub use fault::{OpenGameError, Uncommitted};
-pub use folder::{FindFault, find_game, game_path, kept_path};
+pub use folder::{game_path, kept_path};
 pub use game_file::{Game, MOST_GAME_BYTES, read_game, write_game};
 pub use game_lines::{GameFileFault, delay_of_digit};
 pub use games::GameConfig;

@@ -1,14 +1,11 @@
 pub mod ListingLaws
 pub mod TellingLaws
-pub mod SideLaws
-pub mod StatusLaws
 pub mod GameLaws
 pub mod LineLaws
 pub mod StoreLaws
 pub mod StoredLaws
 pub mod TotalLaws
 pub mod MetricLaws
-pub mod FolderLaws
 pub mod NameLaws
 pub mod ObjectLaws
 pub mod ObjectDepth

@@ -1,8 +1,7 @@
 -- Objects that are written token by token, and read back.
-use Rattle.std.proofs.Common.{◌≡◌, ◌∙◌, ◌++◌, ◌≤◌, ◌<◌, ◌+◌, ℕ, Bool, true, false, List, [], ◌∷◌, Some, refl, sym, ap, append_assoc, append-nil, length, take, get_or, option_and_then, ◌^◌}
+use Rattle.std.proofs.Common.{◌≡◌, ◌∙◌, ◌++◌, ◌≤◌, ◌+◌, ℕ, Bool, true, false, List, [], ◌∷◌, Some, refl, sym, ap, append_assoc, append-nil, option_and_then}
 use Rattle.std.specs.Prelude.{Result, Ok, Err, OnOk}
 use Rattle.std.proofs.lemmas.Bool.{false≢true}
-use Rattle.std.proofs.lemmas.Grind.{flat_map-append}
 use Rattle.json.specs.Json.{Json, array, object, Members, no_members, member, document, if_last, max_depth, value}
 use Rattle.json.specs.Lex.{tokens}
 use Rattle.json.specs.Print.{print}
@@ -10,16 +9,9 @@ use Rattle.json.specs.Token.{Token, begin_array, begin_object, end_array, end_ob
 use Rattle.json.specs.Tree.{depth, items_tokens, json_tokens, members_tokens}
 use Rattle.json.specs.Written.{Writes, Written}
 use Rattle.json.proofs.Printed.Trees.{value-json_tokens}
-use Rattle.game_status.specs.declared.status_lines.Look.{Look}
-use Rattle.game_status.specs.declared.totals.Totals.{Totals}
-use Rattle.move_msg.specs.TextLines.{ended}
-use Rattle.game_status.specs.Reports.{All, IsReport, json_form}
-use Rattle.game_status.specs.StatusObjects.{game_json, games_items, json_text, members_if, status_json}
-use Rattle.game_status.specs.Totals.{FoundGame, totals_of}
-use Rattle.game_status.specs.Inside.Objects.{AddsGames, AddsMembers, AddsStatus, AddsTokens, games_tokens}
-use Rattle.game_status.specs.Inside.Totalling.{AddsLook, CanAddOneMore}
-use Rattle.game_status.proofs.ObjectDepth.{status_shallow}
-use Rattle.game_status.proofs.TotalLaws.{few_found, found_more, totals_more}
+use Rattle.game_status.specs.StatusObjects.{AddsMembers, AddsTokens, game_json, games_items, json_text, members_if}
+use Rattle.game_status.specs.Totals.{FoundGame}
+use Rattle.game_status.specs.Inside.Objects.{games_tokens}
 
 -- ---- tokens
 
@@ -74,27 +66,6 @@ listed a k b c d name compares found named h m e =
     let all = both k c d (begin_array ∷ games_tokens compares found) (end_array ∷ []) (both k b c (begin_array ∷ []) (games_tokens compares found) h m) e in
     valued a k d name (array (games_items compares found)) named (record { before = all.before; tokens = all.tokens ∙ ap (λ l. k.tokens ++ (begin_array ∷ l)) (games_closed compares found) })
 
-module _ (F : List ℕ → Look → Type 0) (stamps : List (List ℕ)) (compares : Bool) where
-  pub none_added : (w : Written) (t : Totals) → t ≡ totals_of [] → AddsGames F [] compares w w t
-  none_added w t is = record { found = []; are = tt; written = no_tokens w; counted = is }
-
-  pub few_added : (i : ℕ) (old new : Written) (t : Totals) → i < length stamps → length stamps < 2 ^ 63 → AddsGames F (take i stamps) compares old new t → CanAddOneMore t
-  few_added i old new t within small h = few_found F stamps i h.found t within small h.are h.counted
-
-  pub more_added : (i : ℕ) (stamp other : List ℕ) (old mid new : Written) (s t : Totals) (l : Look) → i < length stamps → stamp ≡ get_or stamps i other → AddsGames F (take i stamps) compares old mid s → F stamp l → AddsTokens mid new (json_tokens (game_json compares (record { stamp = stamp; look = l }))) → AddsLook s l t → AddsGames F (take (i + 1) stamps) compares old new t
-  more_added i stamp other old mid new s t l within at h finds wrote adds =
-      let f : FoundGame = record { stamp = stamp; look = l } in
-      let all = both old mid new (games_tokens compares h.found) (json_tokens (game_json compares f)) h.written wrote in
-      record {
-        found = h.found ++ f ∷ [];
-        are = found_more F stamps i stamp other h.found l within at h.are finds;
-        written = record {
-          before = all.before;
-          tokens = all.tokens ∙ ap (λ ts. old.tokens ++ (games_tokens compares h.found ++ ts)) (sym (append-nil (json_tokens (game_json compares f)))) ∙ ap (λ ts. old.tokens ++ ts) (sym (flat_map-append (λ f. json_tokens (game_json compares f)) h.found (f ∷ [])));
-        };
-        counted = totals_more h.found f s t h.counted adds;
-      }
-
 -- ---- members that stand only where that is so
 
 pub stand_if : (is_so : Bool) (ms : Members → Members) (old new : Written) → is_so ≡ true → AddsMembers old new ms → AddsMembers old new (members_if is_so ms)
@@ -111,17 +82,3 @@ pub reads_back : (j : Json) → tokens (print (json_tokens j)) ≡ json_tokens j
 reads_back j same shallow =
     ap (λ ts. option_and_then (λ p. if_last p.0 p.1) (value max_depth ts)) (same ∙ sym (append-nil (json_tokens j)))
     ∙ ap (option_and_then (λ p. if_last p.0 p.1)) (value-json_tokens j max_depth [] shallow)
-
--- ---- all of it
-
--- an object with all games is written to a text that was empty, and a line feed
-pub status_report : (F : List ℕ → Look → Type 0) (stamps : List (List ℕ)) (compares : Bool) (start text : Written) (line : List ℕ) → start.before ≡ [] → start.tokens ≡ []
-    → AddsStatus F stamps compares start text → line ≡ text.before ++ ended (print text.tokens) → tokens (print text.tokens) ≡ text.tokens → IsReport json_form F stamps compares line true
-status_report F stamps compares start text line nothing empty h is same =
-    let j = status_json compares h.found in
-    let written : text.tokens ≡ json_tokens j = h.written.tokens ∙ ap (λ ts. ts ++ json_tokens j) empty in
-    All h.found h.are (
-      is ∙ ap (λ front. front ++ ended (print text.tokens)) (h.written.before ∙ nothing) ∙ ap (λ ts. ended (print ts)) written,
-      reads_back j (ap (λ ts. tokens (print ts)) (sym written) ∙ same ∙ written) (status_shallow compares h.found),
-      refl,
-    )

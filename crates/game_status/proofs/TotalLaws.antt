@@ -1,7 +1,7 @@
 -- Games that are found and counted in turn.
-use Rattle.std.proofs.Common.{◌≡◌, ◌∙◌, ◌<◌, ◌+◌, ◌++◌, ◌^◌, ℕ, Bool, cond, List, [], ◌∷◌, length, min, take, get_or, refl, sym, ap, subst, arith}
+use Rattle.std.proofs.Common.{◌≡◌, ◌∙◌, ◌<◌, ◌+◌, ◌++◌, ◌^◌, ℕ, Bool, cond, List, [], ◌∷◌, length, min, take, refl, sym, ap, subst, arith}
 use Rattle.std.specs.List.{count_by, sum_by}
-use Rattle.std.proofs.lemmas.List.{length-map, map-append, take_more, length-take-le}
+use Rattle.std.proofs.lemmas.List.{length-map, map-append, length-take-le}
 use Rattle.std.proofs.lemmas.List.Sums.{count_by-le-length, sum_by-append}
 use Rattle.std.proofs.lemmas.Slice.Zip.{AllZip-long}
 use Rattle.game_status.specs.declared.status_lines.Look.{Look}
@@ -14,8 +14,8 @@ use Rattle.game_status.specs.Statuses.{game_told_by, status_mark}
 use Rattle.game_status.specs.Tellings.{count_marked, is_apart, is_fault, is_ruled_mark, sums_of}
 use Rattle.game_status.specs.Totals.{AreFound, FoundGame, is_behind_in, is_open_mark, most_total, moves_in, lines_told, totals_of}
 use Rattle.game_status.specs.Inside.Counting.{AddsMark}
-use Rattle.game_status.specs.Inside.Totalling.{AddsLook, CanAddOneMore, CountsEach}
-use Rattle.game_status.proofs.TellingLaws.{at_most, count_more, sums_more, zip_more}
+use Rattle.game_status.specs.Inside.Totalling.{AddsLook, CanAddOneMore}
+use Rattle.game_status.proofs.TellingLaws.{at_most, count_more, sums_more}
 
 -- ---- one game more
 
@@ -72,17 +72,3 @@ module _ (F : List ℕ → Look → Type 0) (stamps : List (List ℕ)) where
         open_games = open_games;
         behind = omega (arith, told, behind);
       })
-
-  pub found_more : (i : ℕ) (stamp other : List ℕ) (found : List FoundGame) (l : Look) → i < length stamps → stamp ≡ get_or stamps i other → AreFound F (take i stamps) found → F stamp l → AreFound F (take (i + 1) stamps) (found ++ record { stamp = stamp; look = l } ∷ [])
-  found_more i stamp other found l within at are finds =
-      let front : take (i + 1) stamps ≡ take i stamps ++ stamp ∷ [] = take_more stamps i other within ∙ ap (λ (s : List ℕ). take i stamps ++ s ∷ []) (sym at) in
-      subst (λ (ss : List (List ℕ)). AreFound F ss (found ++ record { stamp = stamp; look = l } ∷ [])) (sym front) (zip_more _ (take i stamps) found stamp (record { stamp = stamp; look = l }) are (refl, finds))
-
-  pub none_counted : (t : Totals) → t ≡ totals_of [] → CountsEach F [] t
-  none_counted t is = ([], tt, is)
-
-  pub few_counted : (i : ℕ) (t : Totals) → i < length stamps → length stamps < 2 ^ 63 → CountsEach F (take i stamps) t → CanAddOneMore t
-  few_counted i t within small (found, are, is) = few_found i found t within small are is
-
-  pub more_counted : (i : ℕ) (stamp other : List ℕ) (t new : Totals) (l : Look) → i < length stamps → stamp ≡ get_or stamps i other → CountsEach F (take i stamps) t → F stamp l → AddsLook t l new → CountsEach F (take (i + 1) stamps) new
-  more_counted i stamp other t new l within at (found, are, is) finds adds = (found ++ record { stamp = stamp; look = l } ∷ [], found_more i stamp other found l within at are finds, totals_more found (record { stamp = stamp; look = l }) t new is adds)

@@ -1,6 +1,5 @@
 pub mod Counting
 pub mod Decoding
-pub mod Listing
 pub mod Objects
 pub mod Parting
 pub mod StoreReading

@@ -4,7 +4,6 @@ pub mod Sides
 pub mod Comparisons
 pub mod Tellings
 pub mod Statuses
-pub mod OneGame
 pub mod Totals
 pub mod Metrics
 pub mod StatusObjects

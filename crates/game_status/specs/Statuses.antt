@@ -4,7 +4,6 @@ use Rattle.std.specs.Fmt.{decimal}
 use Rattle.hex.specs.Hex.{encode_lower}
 use Rattle.move_msg.specs.declared.record_bytes.Record.{Record as Records}
 use Rattle.arbiter_server.specs.ServedLines.{verdict_or_none}
-use Rattle.system_io.specs.Disks.{DiskFacts}
 use Rattle.game_status.specs.declared.comparing.Compared.{Compared}
 use Rattle.game_status.specs.declared.entry.EntryFault.{EntryFault}
 use Rattle.game_status.specs.declared.entry.EntryFault.TheVariants.{OtherGame}
@@ -15,8 +14,6 @@ use Rattle.game_status.specs.declared.telling.Mark.{Mark}
 use Rattle.game_status.specs.declared.telling.Mark.TheVariants as mark
 use Rattle.game_status.specs.Comparisons.{IsComparedAs, compared_words, mark_of, mark_of_two}
 use Rattle.game_status.specs.Entries.{game_told, listed_fault_words}
-use Rattle.game_status.specs.Listings.{Listing}
-use Rattle.game_status.specs.Sides.{HasGameAndRecord, LacksSide}
 use Rattle.game_status.specs.declared.telling.GameTold.{GameTold}
 
 -- ---- the lines
@@ -62,9 +59,6 @@ status_mark (look.OtherAtFault fault) = mark.AtFault
 
 -- ---- one game
 
-abbrev pub IsSide : DiskFacts → Listing → List ℕ → Side → Type 0
-IsSide disk f stamp side = HasGameAndRecord disk f stamp (game_told side.game) side.kept
-
 -- the folders' files tell one game, and the records are compared; or the second's tells another one
 abbrev pub IsLookAtBoth : Side → Side → Look → Type 0
 IsLookAtBoth one other (look.One side) = ⊥
@@ -72,14 +66,3 @@ IsLookAtBoth one other (look.Both side beside compared) =
     (side ≡ one) × (beside ≡ other) × (game_told one.game ≡ game_told other.game) × IsComparedAs one.kept other.kept compared
 IsLookAtBoth one other (look.AtFault fault) = ⊥
 IsLookAtBoth one other (look.OtherAtFault fault) = (fault ≡ OtherGame) × (game_told one.game ≢ game_told other.game)
-
--- beside what the first folder has, the second has a game and its record, or lacks them
-pub data IsLookBeside (disk : DiskFacts) (one : Side) (f : Listing) (stamp : List ℕ) (l : Look) : Type 0 where
-  HasBeside : (other : Side) → IsSide disk f stamp other → IsLookAtBoth one other l → IsLookBeside disk one f stamp l
-  LacksBeside : (fault : EntryFault) → LacksSide disk f stamp fault → l ≡ look.OtherAtFault fault → IsLookBeside disk one f stamp l
-
--- what is found of a game in the one folder, and in the second where there is one
-pub data IsLook (disk : DiskFacts) (one : Listing) (other : Option Listing) (stamp : List ℕ) (l : Look) : Type 0 where
-  InOne : (side : Side) → other ≡ None → IsSide disk one stamp side → l ≡ look.One side → IsLook disk one other stamp l
-  InBoth : (side : Side) (second : Listing) → other ≡ Some second → IsSide disk one stamp side → IsLookBeside disk side second stamp l → IsLook disk one other stamp l
-  InNone : (fault : EntryFault) → LacksSide disk one stamp fault → l ≡ look.AtFault fault → IsLook disk one other stamp l

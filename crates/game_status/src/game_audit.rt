@@ -25,7 +25,7 @@ pub struct AuditTables<'a> {
 }
 
 /// Whether two stamps are one.
-pub(crate) fn is_same_stamp(one: Stamp, other: Stamp) -> bool
+fn is_same_stamp(one: Stamp, other: Stamp) -> bool
     ensures { IsTrue result ↔ (one ≡ other) }
 {
     one == other

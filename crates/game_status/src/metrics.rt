@@ -1,17 +1,12 @@
 //! How many games there are of each kind, in the text format of Prometheus.
 
-ghost use Rattle.std.specs.Prelude.{◌≡◌, ◌++◌, true, IfOk, OnOk};
+ghost use Rattle.std.specs.Prelude.{◌≡◌, ◌++◌, IfOk, OnOk};
 ghost use Rattle.std.specs.Fmt.{decimal};
-ghost use Rattle.game_status.specs.Reports.{IsReport, metrics_form};
-ghost use Rattle.game_status.specs.Inside.Totalling.{CountsEach, looks_of};
 ghost use Rattle.game_status.specs.Metrics.{compared_metrics, gauge, metric, metrics_if_compared, metrics_text, sample, state_metrics};
 
-use crate::status::StatusTeller;
 use crate::totals::Totals;
 use itoa::Buffer;
-use move_msg::Stamp;
 use std::alloc::{AllocError, Global};
-use system_io::Disk;
 
 /// Adds a text.
 fn add(text: &mut Vec<u8>, more: &str) -> Result<(), AllocError>
@@ -132,28 +127,4 @@ pub fn metrics_text(alloc: Global, totals: &Totals, compares: bool) -> Result<Ve
     )?;
     add_compared(&mut text, totals, compares)?;
     Ok(text)
-}
-
-/// Counts the games with these stamps by what is found of each. The error comes only where memory is refused.
-fn count_each<D: Disk>(teller: &StatusTeller<'_, D>, stamps: &[Stamp]) -> Result<Totals, AllocError>
-    ensures { IfOk result (CountsEach (looks_of D.facts teller.now) stamps.now) }
-{
-    let mut totals = Totals::none();
-    for stamp in stamps {
-        let look = teller.look(*stamp)?;
-        totals = totals.with(&look);
-    }
-    Ok(totals)
-}
-
-/// The metrics of the games with these stamps.
-pub(crate) fn metrics_of<D: Disk>(
-    teller: &StatusTeller<'_, D>,
-    stamps: &[Stamp],
-    compares: bool,
-) -> Result<Vec<u8>, AllocError>
-    ensures { IfOk result (λ text. IsReport metrics_form (looks_of D.facts teller.now) stamps.now compares text.items true) }
-{
-    let totals = count_each(teller, stamps)?;
-    metrics_text(teller.alloc, &totals, compares)
 }

@@ -9,16 +9,12 @@ ghost use Rattle.json.specs.Print.{print};
 ghost use Rattle.json.specs.Tree.{json_tokens};
 ghost use Rattle.move_msg.specs.TextLines.{ended};
 ghost use Rattle.game_status.specs.Entries.{fault_words};
-ghost use Rattle.game_status.specs.Reports.{IsReport, json_form};
 ghost use Rattle.game_status.specs.StatusObjects.{compared_members, compared_totals, comparison_members, count_or_null, first_members, game_json, kept_members, members_if, record_members, second_members, side_members, text_or_null, totals_json, totals_members, truth_or_null, unknown_members, unlooked_members};
-ghost use Rattle.game_status.specs.Inside.Objects.{AddsGames, AddsList, AddsStatus};
 ghost use Rattle.game_status.specs.StatusObjects.{AddsMembers, AddsTokens, AreNamed, IsNamed};
-ghost use Rattle.game_status.specs.Inside.Totalling.{looks_of};
 
 use crate::comparing::Compared;
 use crate::entry::EntryFault;
 use crate::side::Side;
-use crate::status::StatusTeller;
 use crate::status_lines::{Look, fault_words};
 use crate::totals::Totals;
 use board_core::Verdict;
@@ -26,7 +22,6 @@ use fen_text::write;
 use json::Writer;
 use move_msg::{Record, Stamp};
 use std::alloc::AllocError;
-use system_io::Disk;
 
 /// Adds a member to an object whose value is a text, or null.
 pub fn add_text(text: &mut Writer, name: &str, value: Option<&str>) -> Result<(), AllocError>
@@ -270,40 +265,6 @@ pub fn add_game(
     text.end_object()
 }
 
-/// Adds the objects of the games with these stamps by what is found of each, and counts them.
-fn add_games<D: Disk>(
-    text: &mut Writer,
-    teller: &StatusTeller<'_, D>,
-    stamps: &[Stamp],
-    compares: bool,
-) -> Result<Totals, AllocError>
-    ensures { IfOk result (AddsGames (looks_of D.facts teller.now) stamps.now compares text.old text.new) }
-{
-    let mut totals = Totals::none();
-    for stamp in stamps {
-        let look = teller.look(*stamp)?;
-        add_game(text, *stamp, &look, compares)?;
-        totals = totals.with(&look);
-    }
-    Ok(totals)
-}
-
-/// Adds the list of the games with these stamps, and counts them.
-fn add_list<D: Disk>(
-    text: &mut Writer,
-    teller: &StatusTeller<'_, D>,
-    stamps: &[Stamp],
-    compares: bool,
-) -> Result<Totals, AllocError>
-    ensures { IfOk result (AddsList (looks_of D.facts teller.now) stamps.now compares text.old text.new) }
-{
-    text.key("games")?;
-    text.begin_array()?;
-    let totals = add_games(text, teller, stamps, compares)?;
-    text.end_array()?;
-    Ok(totals)
-}
-
 /// Adds how many games there are, those of each state, and the moves of the first folder's records.
 fn add_totals(text: &mut Writer, totals: &Totals) -> Result<(), AllocError>
     ensures { OnOk result (AddsMembers text.old text.new (totals_members totals.now)) }
@@ -349,21 +310,6 @@ pub fn add_sums(text: &mut Writer, totals: &Totals, compares: bool) -> Result<()
     text.end_object()
 }
 
-/// Adds the object of all games with these stamps.
-fn add_status<D: Disk>(
-    text: &mut Writer,
-    teller: &StatusTeller<'_, D>,
-    stamps: &[Stamp],
-    compares: bool,
-) -> Result<(), AllocError>
-    ensures { OnOk result (AddsStatus (looks_of D.facts teller.now) stamps.now compares text.old text.new) }
-{
-    text.begin_object()?;
-    let totals = add_list(text, teller, stamps, compares)?;
-    add_sums(text, &totals, compares)?;
-    text.end_object()
-}
-
 /// The text of a line with what was written. The error comes only where memory is refused.
 pub fn line_of(text: Writer) -> Result<Vec<u8>, AllocError>
     ensures line { IfOk result (λ line. line.items ≡ text.before ++ ended (print text.tokens)) }
@@ -372,17 +318,4 @@ pub fn line_of(text: Writer) -> Result<Vec<u8>, AllocError>
     let mut line = text.into_inner();
     line.push(b'\n')?;
     Ok(line)
-}
-
-/// The object of the games with these stamps, on a line.
-pub(crate) fn object_of<D: Disk>(
-    teller: &StatusTeller<'_, D>,
-    stamps: &[Stamp],
-    compares: bool,
-) -> Result<Vec<u8>, AllocError>
-    ensures { IfOk result (λ text. IsReport json_form (looks_of D.facts teller.now) stamps.now compares text.items true) }
-{
-    let mut text = Writer::new(Vec::new(teller.alloc));
-    add_status(&mut text, teller, stamps, compares)?;
-    line_of(text)
 }

@@ -2,18 +2,14 @@
 
 ghost use Rattle.std.specs.Prelude.{IfErr, IfOk};
 ghost use Rattle.move_msg.specs.Records.{SpellsRecord};
-ghost use Rattle.game_status.specs.Entries.{HasEntry, game_told};
-ghost use Rattle.game_status.specs.Listings.{listing_of};
-ghost use Rattle.game_status.specs.Sides.{HasGameAndRecord, IsOfStamp, LacksSide};
+ghost use Rattle.game_status.specs.Sides.{IsOfStamp};
 ghost use Rattle.game_status.specs.Inside.Decoding.{AreSides, IsNoRecordOf, IsNoSide};
 
-use crate::entry::{Entry, EntryFault, read_entry};
-use crate::listing::Folder;
+use crate::entry::{Entry, EntryFault};
 use arbiter_server::Game;
 use board_core::Delay;
 use move_msg::{Record, RecordFault, Stamp};
 use std::alloc::{AllocError, Global};
-use system_io::Disk;
 
 /// How far a folder has come with a game.
 #[derive(Drop)]
@@ -66,22 +62,6 @@ pub fn side_of(
             game,
             kept: Some(record),
         })),
-        Err(fault) => Ok(Err(fault)),
-    }
-}
-
-/// How far a folder has come with the game of a stamp, or why it can't be told. The error comes only where memory is refused.
-pub(crate) fn read_side<D: Disk>(
-    alloc: Global,
-    disk: &D,
-    folder: &Folder<'_>,
-    stamp: Stamp,
-) -> Result<Result<Side, EntryFault>, AllocError>
-    ensures side { IfOk result (λ r. IfOk r (λ s. HasGameAndRecord (D.facts disk.now) (listing_of folder.now) stamp (game_told s.game) s.kept)) }
-    ensures fault { IfOk result (λ r. IfErr r (LacksSide (D.facts disk.now) (listing_of folder.now) stamp)) }
-{
-    match read_entry(alloc, disk, folder, stamp)? {
-        Ok(entry) => side_of(alloc, entry, stamp),
         Err(fault) => Ok(Err(fault)),
     }
 }

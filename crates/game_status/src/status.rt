@@ -1,22 +1,17 @@
 //! How far the games of folders have come.
 
-ghost use Rattle.std.specs.Prelude.{◌≡◌, ◌↔◌, IfOk, IsTrue};
+ghost use Rattle.std.specs.Prelude.{◌≡◌, ◌↔◌, IsTrue};
 ghost use Rattle.game_status.specs.Entries.{game_told};
-ghost use Rattle.game_status.specs.Listings.{listing_of, other_listing};
-ghost use Rattle.game_status.specs.Statuses.{IsLook, IsLookAtBoth, IsLookBeside};
+ghost use Rattle.game_status.specs.Statuses.{IsLookAtBoth};
 
 use crate::comparing::compare_kept;
 use crate::entry::EntryFault;
-use crate::listing::Folder;
-use crate::side::{Side, read_side};
+use crate::side::Side;
 use crate::status_lines::Look;
 use arbiter_server::Game;
 use board_core::Position;
 use fen_text::laws::one_position;
 use fen_text::write;
-use move_msg::Stamp;
-use std::alloc::{AllocError, Global};
-use system_io::Disk;
 
 /// Whether two texts are one.
 fn is_same_text(one: &[u8], other: &[u8]) -> bool
@@ -48,19 +43,6 @@ fn is_same_game(one: &Game, other: &Game) -> bool
     is_same_start(&one.start, &other.start)
 }
 
-/// What finds how far games have come.
-#[derive(Clone, Copy)]
-pub(crate) struct StatusTeller<'a, D> {
-    /// The allocator.
-    pub(crate) alloc: Global,
-    /// Where the files are.
-    pub(crate) disk: &'a D,
-    /// The folder.
-    pub(crate) one: &'a Folder<'a>,
-    /// The second folder, if one is named.
-    pub(crate) other: Option<&'a Folder<'a>>,
-}
-
 /// What is told of a game of which both folders have this.
 pub fn look_at_both(one: Side, other: Side) -> Look
     ensures { IsLookAtBoth one other result }
@@ -70,29 +52,4 @@ pub fn look_at_both(one: Side, other: Side) -> Look
     }
     let compared = compare_kept(&one.kept, &other.kept);
     Look::Both(one, other, compared)
-}
-
-impl<'a, D: Disk> StatusTeller<'a, D> {
-    /// What is told of a game of which the first folder has this, and the second has the rest.
-    fn look_beside(&self, one: Side, folder: &Folder<'_>, stamp: Stamp) -> Result<Look, AllocError>
-        ensures { IfOk result (IsLookBeside (D.facts self.now.disk.now) one (listing_of folder.now) stamp) }
-    {
-        match read_side(self.alloc, self.disk, folder, stamp)? {
-            Ok(other) => Ok(look_at_both(one, other)),
-            Err(fault) => Ok(Look::OtherAtFault(fault)),
-        }
-    }
-
-    /// What is told of the game with a stamp. The error comes only where memory is refused.
-    pub(crate) fn look(&self, stamp: Stamp) -> Result<Look, AllocError>
-        ensures { IfOk result (IsLook (D.facts self.now.disk.now) (listing_of self.now.one.now) (other_listing self.now.other) stamp) }
-    {
-        match read_side(self.alloc, self.disk, self.one, stamp)? {
-            Ok(one) => match self.other {
-                None => Ok(Look::One(one)),
-                Some(folder) => self.look_beside(one, folder, stamp),
-            },
-            Err(fault) => Ok(Look::AtFault(fault)),
-        }
-    }
 }

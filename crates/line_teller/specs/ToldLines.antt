@@ -1,35 +1,21 @@
--- Lines that are read and lines that are written, and what a writer that failed leaves (this project's own).
-use Rattle.std.specs.Prelude.{◌≡◌, ◌⊎◌, ◌++◌, ℕ, Bool, List, [], ◌∷◌, take, Option, codes}
+-- Lines that are read and lines that are written, and that a writer failed (this project's own).
+use Rattle.std.specs.Prelude.{◌≡◌, ◌⊎◌, ◌++◌, ℕ, Bool, List, [], ◌∷◌, Option, codes}
 use Rattle.std.specs.Fmt.{decimal}
-use Rattle.std.specs.Io.KnownBytes.{Appends}
 use Rattle.system_io.specs.Outputs.{OutputFacts}
 use Rattle.system_io.specs.LineReaders.{LineFacts, ReadsLine}
 use Rattle.system_io.specs.declared.reading.ReadFault.{ReadFault}
 use Rattle.system_io.specs.declared.reading.ReadFault.TheVariants as read
-use Rattle.move_msg.specs.TextLines.{ended, text_of}
 
 -- what is told of a line, and whether all of it is told
 pub record LineTold : Type 0 where
   pub words : List ℕ
   pub done : Bool
 
--- of a text a front was written, and nothing else
-abbrev pub HasFront : Option (List ℕ) → Option (List ℕ) → List ℕ → Type 0
-HasFront old new text = (n : ℕ) × Appends old new (take n text)
-
 -- A writer of this type failed: at some moment a write to it might be refused, or some of what was written couldn't go out. Nothing ties the
 -- moment to a call: a body that knows no more of its writer has it only from a call that failed.
 pub record HasFailed {W : Type 0} (facts : W → OutputFacts) : Type 0 where
   pub at : W
   pub so : (facts at).refuses ⊎ (facts at).stuck
-
--- all lines but the last one were written whole, and a front of that one
-pub record IsCut (lines : List (List ℕ)) (old new : Option (List ℕ)) : Type 0 where
-  pub earlier : List (List ℕ)
-  pub last : List ℕ
-  pub front : ℕ
-  pub all : lines ≡ earlier ++ last ∷ []
-  pub written : Appends old new (text_of earlier ++ take front (ended last))
 
 -- how many lines are done on the way
 abbrev pub done_words : ℕ → List ℕ

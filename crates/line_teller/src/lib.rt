@@ -4,11 +4,11 @@
 //! was not answered).
 //!
 //! Definitions: `ToldLines` (`LineTold`; `AreRead`, `stops_by`, the lines of an input; `cut_words`, the lines that say why no more is
-//! read; `HasFront`, `IsCut`, `HasFailed`, what a writer that failed leaves). The lines of an input are answered by `line_events`.
+//! read; `HasFailed`, that a writer failed). The lines of an input are answered by `line_events`.
 //!
-//! - CLAIM: `LineWords::put`, clauses `front`, `cause`: a line that is laid out is written with its line feed, or, only where the writer
-//!   may refuse a write at that moment, a front of it; laying it out never fails.
-//! - CLAIM: `LineWords::write`, clauses `made`, `cause`: the same to a stream of a system, by one write; nothing else happens outside.
+//! - CLAIM: `LineWords::write`, clauses `made`, `cause`: a line that is laid out is written with its line feed to a stream of a system, by
+//!   one write, or, only where a write may be refused at that moment, a front of it; nothing else happens outside, and laying it out
+//!   never fails.
 #![tactic(auto)]
 
 mod line_words;

@@ -3,7 +3,6 @@
 ghost use Rattle.std.specs.Prelude.{◌≡◌, ◌≤◌, ◌+◌, ◌++◌, [], OnErr, length};
 ghost use Rattle.hex.specs.Hex.{encode_lower};
 ghost use Rattle.move_msg.specs.TextLines.{ended};
-ghost use Rattle.system_io.specs.Outputs.{WritesFront};
 ghost use Rattle.timeline.specs.Events.{IsWritten};
 ghost use Rattle.timeline.specs.Outsides.{AddsSome};
 
@@ -11,7 +10,7 @@ use arrayvec::ArrayVec;
 use itoa::{Buffer, Integer};
 use move_msg::Stamp;
 use std::marker::Model;
-use system_io::{Output, WriteFault};
+use system_io::WriteFault;
 use timeline::{Stream, System};
 
 /// The words of a line, at most 255 bytes, without its line feed; contracts see these bytes. They take no memory, and a caller shows
@@ -99,18 +98,6 @@ impl LineWords {
     {
         self.add(words);
         self.add_number(number);
-    }
-
-    /// Writes the line at once, with its line feed. An error comes only where the writer may refuse a write; a front of the line is
-    /// written then.
-    pub fn put<W: Output>(self, out: &mut W) -> Result<(), WriteFault>
-        ensures front { WritesFront (W.contents out.old) (W.contents out.new) (ended self) result }
-        ensures cause { OnErr result (W.facts out.old).refuses }
-    {
-        let LineWords { bytes } = self;
-        let mut text = bytes;
-        text.push(b'\n');
-        out.put(text.as_slice())
     }
 
     /// Writes the line at once to a stream of a system, with its line feed. An error comes only where a write may be refused; a front

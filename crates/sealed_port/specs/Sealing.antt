@@ -1,7 +1,7 @@
 -- Datagrams that carry a tag (this project's own).
-use Rattle.std.specs.Prelude.{◌≡◌, ◌++◌, ◌+◌, ◌-◌, ◌^◌, ◌&&◌, ℕ, Bool, true, false, List, Option, None, length, map, min, take, drop, cond, nat_le, option_map}
+use Rattle.std.specs.Prelude.{◌++◌, ◌+◌, ◌-◌, ◌^◌, ◌&&◌, ℕ, Bool, true, List, length, min, take, drop, cond, nat_le}
 use Rattle.std.specs.Str.{bytes_eq}
-use Rattle.system_io.specs.Ports.{Passing, Came, Quiet, Missed, Handed, Passed, PortFacts, no_tag, to_each}
+use Rattle.system_io.specs.Ports.{no_tag}
 use Rattle.sealed_port.specs.Hmac.{hmac}
 use Rattle.sealed_port.specs.declared.seal_port.Keys.{Keys}
 
@@ -32,49 +32,6 @@ is_sealed_by keys datagram = cond (is_sealed keys.first datagram) true (is_seale
 abbrev pub opened : Bool → List ℕ → List ℕ
 opened is datagram = cond is (before_tag datagram) no_tag
 
--- what passes at a sealed port, by what passes at the port below it: what was sent counts only with the tag of the first key
-abbrev pub unsealed : Keys → Passing → Passing
-unsealed keys (Came bytes) = Came (opened (is_sealed_by keys bytes) bytes)
-unsealed keys (Quiet nanos) = Quiet nanos
-unsealed keys Missed = Missed
-unsealed keys (Handed to bytes) = Handed to (opened (is_sealed keys.first bytes) bytes)
-
-abbrev pub all_unsealed : Keys → Option (List Passing) → Option (List Passing)
-all_unsealed keys passed = option_map (map (unsealed keys)) passed
-
 -- a count, which stays at its greatest value
 abbrev pub capped_count : ℕ → ℕ
 capped_count n = min n (2 ^ 64 - 1)
-
--- what contracts see of a sealed port: the port below it, its keys, whether its traffic is known, and how many datagrams it left out
-pub record SealedView (P : Type 0) : Type 0 where
-  pub port : P
-  pub keys : Keys
-  pub is_told : Bool
-  pub left_out : ℕ
-
--- at first its traffic is known, and no datagram is left out
-abbrev pub over_port : {P : Type 0} → P → Keys → SealedView P
-over_port port keys = record { port = port; keys = keys; is_told = true; left_out = 0 }
-
--- its facts by those of the port below it; its failures are those below and the datagrams that it left out
-abbrev pub unsealed_facts : Keys → Bool → ℕ → PortFacts → PortFacts
-unsealed_facts keys is_told left_out f = record { passed = cond is_told (all_unsealed keys f.passed) None; faults = capped_count (f.faults + left_out); addresses = f.addresses }
-
-abbrev pub sealed_facts : {P : Type 0} → (P → PortFacts) → SealedView P → PortFacts
-sealed_facts facts s = unsealed_facts s.keys s.is_told s.left_out (facts s.port)
-
--- what a call leaves but for the port below: the keys, whether the traffic is known, and the datagrams that were left out
-pub record StaysButPort {P : Type 0} (old new : SealedView P) : Type 0 where
-  pub keys : new.keys ≡ old.keys
-  pub told : new.is_told ≡ old.is_told
-  pub left_out : new.left_out ≡ old.left_out
-
--- to each address these bytes went with their tag under the first key, and nothing else passed below
-pub record SendsSealed {P : Type 0} (facts : P → PortFacts) (old new : SealedView P) (bytes : List ℕ) : Type 0 where
-  pub below : Passed (facts old.port) (facts new.port) (to_each (facts old.port).addresses (sealed old.keys.first bytes))
-  pub stays : StaysButPort old new
-
--- a datagram is left out: nothing passes below, the traffic isn't known from then on, and it is counted
-abbrev pub LeavesOut : {P : Type 0} → SealedView P → SealedView P → Type 0
-LeavesOut old new = new ≡ record { port = old.port; keys = old.keys; is_told = false; left_out = capped_count (old.left_out + 1) }

@@ -1,28 +1,23 @@
-//! A port whose datagrams carry a tag, by which only those who have the key can make them.
+//! A system whose datagrams carry a tag, by which only those who have the key can make them.
 //!
-//! `Sealed` is a port over another one. What it sends goes out with a tag behind it: the first 16 bytes of the HMAC-SHA-256 (RFC
-//! 2104, over FIPS 180-4) of the bytes under the first key. What comes is passed on without its tag where that is right under one of
-//! the keys. For any other datagram it passes on 64 bytes that are zero, which `move_msg` reads as `NoTag`. `Keyed` is a host
-//! whose ports are so; its files are those of the host below.
-//!
-//! `KeyedSystem` is the same over a `System` of `timeline`: a system whose ports are so, over another one, whose timeline and all else it
-//! has. What happened is seen by what happened below (`seen`), until a datagram of more than 48 bytes is left out, which is noted below: from
-//! then on it isn't known (`keyed_events`). `Sealed` and `Keyed` stay for the commands that aren't over the timeline yet.
+//! `KeyedSystem` is a `System` of `timeline` over another one, whose timeline and all else but the ports it has. What a port sends goes out
+//! with a tag behind it: the first 16 bytes of the HMAC-SHA-256 (RFC 2104, over FIPS 180-4) of the bytes under the first key. What comes is
+//! passed on without its tag where that is right under one of the keys. For any other datagram it passes on 64 bytes that are zero, which
+//! `move_msg` reads as `NoTag`. What happened is seen by what happened below (`seen`), until a datagram of more than 48 bytes is left out,
+//! which is noted below: from then on it isn't known (`keyed_events`).
 //!
 //! `Keys::read` reads a file of keys: one line or two, each of 64 lower-case hexadecimal digits (FORMATS, section 8). `MacKey` keeps
 //! both digests of a key as they stand behind its block. Tags are compared without an early end (`is_same`); no clause says so, since
 //! a clause says nothing of time.
 //!
-//! Inside: `mac` (HMAC), `key_file`, `seal_port` (`Keys`, `Sealed`), `keyed_host` (`Keyed`), `keyed_system` (`KeyedSystem`), `laws`.
+//! Inside: `mac` (HMAC), `key_file`, `seal_port` (`Keys`, tags), `keyed_system` (`KeyedSystem`), `laws`.
 //!
-//! Definitions, in reading order: `Hmac`, `Sealing`, `KeyFiles`, `KeyedHosts`, `KeyedSystems`, `Laws`. Its tests stand in `checks_io` (`sealed_tests`);
+//! Definitions, in reading order: `Hmac`, `Sealing`, `KeyFiles`, `KeyedSystems`, `Laws`. Its tests stand in `checks_io` (`sealed_tests`);
 //! cases are in `sealed.txt` of `rows`, and `tools/forge` tries a forger against real arbiters.
 //!
 //! - CLAIM: `MacKey::hmac`: the HMAC of a text is that of RFC 2104 over SHA-256.
 //! - CLAIM: `laws::only_sealed_is_passed_on`; `laws::sealed_is_passed_on`: nothing but 64 zeros is passed on for a datagram that isn't
 //!   sealed by one of the keys, and what is sealed is passed on.
-//! - CLAIM: `Sealed::send`, clauses `short`, `long`: bytes go to each address with their tag under the first key, and nothing else
-//!   goes out. Of more than 48 bytes nothing goes out, and the call fails and is counted.
 //! - CLAIM: `KeyedSystem`, clauses `outside`, `one`: each call does what `System` says, by the events as they are seen. A datagram that comes
 //!   is seen as what is passed on of it, and one that was sent counts only with the tag of the first key.
 //! - CLAIM: `KeyedSystem::send`, clauses `short`, `long`: bytes go to each recipient with their tag under the first key, and nothing else is
@@ -32,14 +27,12 @@
 #![tactic(auto)]
 
 mod key_file;
-mod keyed_host;
 mod keyed_system;
 pub mod laws;
 mod mac;
 mod seal_port;
 
 pub use key_file::{KeyFault, MOST_KEY_BYTES};
-pub use keyed_host::Keyed;
 pub use keyed_system::{KeyedPort, KeyedSystem};
 pub use mac::MacKey;
-pub use seal_port::{Keys, MOST_BYTES, Sealed};
+pub use seal_port::{Keys, MOST_BYTES};

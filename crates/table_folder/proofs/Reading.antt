@@ -4,27 +4,25 @@ use Rattle.std.proofs.lemmas.Bool.{cases_eq, false≢true}
 use Rattle.std.proofs.lemmas.List.{get_or-set_same, get_or-set_other, length-append, map-append}
 use Rattle.std.proofs.lemmas.List.Elements.{Contains-append_cases, Contains-append_left, Contains-append_right, Contains-push, Contains-push_cases}
 use Rattle.std.specs.List.{Contains}
-use Rattle.std.specs.Global.{Global}
-use Rattle.std.specs.Prelude.{IfOk, IsErr, IsErrOf, Vec}
+use Rattle.std.specs.Prelude.{IfOk, IsErr}
 use Rattle.std.specs.declared.alloc.AllocError.{AllocError}
-use Rattle.move_msg.specs.Files.{File, table_file_of}
+use Rattle.move_msg.specs.Files.{File}
 use Rattle.move_msg.specs.ToldBy.{told_by}
-use Rattle.move_msg.specs.declared.files.NamedFile.{NamedFile}
 use Rattle.move_msg.specs.declared.told.Manifest.{Manifest}
 use Rattle.system_io.proofs.HistoryLaws.{Passes-nil, Passes-trans}
-use Rattle.system_io.specs.Disks.{AtFile, DiskFacts}
+use Rattle.system_io.specs.Disks.{DiskFacts}
 use Rattle.system_io.specs.declared.reading.ReadFault.{ReadFault}
-use Rattle.system_io.specs.declared.reading.ReadFault.TheVariants.{OutOfMemory, Unreadable}
+use Rattle.system_io.specs.declared.reading.ReadFault.TheVariants.{Unreadable}
 use Rattle.table_file.specs.declared.kind.TableKind.{TableKind}
 use Rattle.table_file.specs.Names.{file_name}
 use Rattle.table_file.specs.Tables.{Contents}
 use Rattle.judge_core.specs.MoreTables.{HasAll, table_count}
 use Rattle.judge_core.specs.Tables.{Holding, Tables, slot, table_at}
 use Rattle.task_files.specs.FileNames.{names_of}
-use Rattle.task_files.specs.Outside.{AreNamesIn, AreWantedOf, CannotList, FolderFails, IsAtItsPath, path_in}
-use Rattle.task_files.specs.TableReads.{ListsTables, ReadsTable, listed, table_read, taken_file}
+use Rattle.task_files.specs.Outside.{AreNamesIn, AreWantedOf, FolderFails, IsAtItsPath, path_in}
+use Rattle.task_files.specs.TableReads.{ListsTables, ReadsTable, listed, table_read}
 use Rattle.task_files.specs.TableReads as listing
-use Rattle.timeline.specs.Events.{Event, FileRead, FolderListed}
+use Rattle.timeline.specs.Events.{Event, FileRead}
 use Rattle.table_folder.specs.declared.fault.FileFault.TheVariants as file
 use Rattle.table_folder.specs.declared.fault.FileRefusal.{FileRefusal}
 use Rattle.table_folder.specs.Folders.{Folder, Found, Says, digest_in, found_in}
@@ -63,25 +61,6 @@ names_in_listing disk folder manifest wanted more (listing.Listed names others n
     record { names = names; listed = lists; are = subst (AreWantedOf (told_by manifest) names) (sym (ok_is wanted others refl is)) are }
 names_in_listing disk folder manifest wanted more (listing.NotListed fault cause made is) = absurd cc
 names_in_listing disk folder manifest wanted more (listing.ListedTwice names note lists may fault cause made is) = absurd cc
-
--- what was listed of a disk alone, by what is known of the names
-pub lists_by_names : (disk : DiskFacts) (folder : List ℕ) (manifest : Manifest) (r : Result (Vec (List ℕ) Global) ReadFault) → IfOk r (λ wanted. AreNamesIn disk folder (told_by manifest) wanted.items) → (IsErrOf r Unreadable → CannotList disk folder (told_by manifest)) → PassesSome None None (ListsTables disk folder manifest (listed r))
-lists_by_names disk folder manifest (Ok wanted) are cause = (
-  FolderListed folder (Ok are.names) ∷ [],
-  tt,
-  listing.Listed are.names wanted.items [] are.listed (listing.NotNoted refl) are.are refl refl,
-)
-lists_by_names disk folder manifest (Err Unreadable) are cause =
-    elim (cause refl) [
-      | inl fails ↦ (FolderListed folder (Err Unreadable) ∷ [], tt, listing.NotListed Unreadable (λ _. fails) refl refl)
-      | inr (names, lists, twice) ↦ (FolderListed folder (Ok names) ∷ [], tt, listing.ListedTwice names [] lists (listing.NotNoted refl) Unreadable (λ _. twice) refl refl)
-    ]
-lists_by_names disk folder manifest (Err OutOfMemory) are cause = (FolderListed folder (Err OutOfMemory) ∷ [], tt, listing.NotListed OutOfMemory (λ same. absurd cc) refl refl)
-
--- what was read of a disk alone, by what is known of the file
-pub reads_by_file : (disk : DiskFacts) (folder name : List ℕ) (r : Result NamedFile ReadFault) → IfOk r (λ file. file.name.bytes ≡ name) → IfOk r (λ file. IsAtItsPath disk folder (table_file_of file)) → (IsErrOf r Unreadable → disk.fails (AtFile (path_in folder name))) → PassesSome None None (ReadsTable disk folder name (taken_file r))
-reads_by_file disk folder name (Ok file) named at cause = (table_read folder (table_file_of file) ∷ [], tt, listing.IsRead (table_file_of file) named at refl refl)
-reads_by_file disk folder name (Err fault) named at cause = (FileRead (path_in folder name) (Err fault) ∷ [], tt, listing.NotRead fault (λ same. cause (ap Err same)) refl refl)
 
 -- why it couldn't be listed
 pub fails_by_listing : (disk : DiskFacts) (folder : List ℕ) (manifest : Manifest) (more : List Event) → ListsTables disk folder manifest (Err Unreadable) more → FolderFails disk folder (told_by manifest)

@@ -8,13 +8,13 @@ ghost use Rattle.table_folder.specs.Reads.{PassesSome};
 
 use move_msg::{Manifest, NamedFile};
 use std::alloc::Global;
-use system_io::{Disk, ReadFault};
-use task_files::{FileName, list_tables, names_in, read_file, read_table};
+use system_io::ReadFault;
+use task_files::{FileName, list_tables, read_table};
 use timeline::System;
 
-/// Where the names of a folder are listed, and the files of its tables are read: a disk alone, or a system with a timeline.
+/// Where the names of a folder are listed, and the files of its tables are read, as a system with a timeline does it (`SystemFiles`).
 pub trait TableFiles {
-    /// What happened so far. A disk alone has no timeline, so nothing is in it there.
+    /// What happened so far.
     type Log;
 
     /// What folders list, what files hold, and what can't be read.
@@ -23,8 +23,7 @@ pub trait TableFiles {
     /// What happened so far, in order; none where it isn't recorded.
     ghost events: { Self → Self.Log → Option (List Event) };
 
-    /// The names of the wanted table files of a folder, in rising order, as `list_tables` and `names_in` of task_files have them. No file
-    /// is read.
+    /// The names of the wanted table files of a folder, in rising order, as `list_tables` of task_files has them. No file is read.
     ///
     /// `Unreadable` where the folder can't be read or lists one of them twice, `OutOfMemory` where memory is refused.
     fn wanted_names(
@@ -47,36 +46,6 @@ pub trait TableFiles {
         name: &FileName,
     ) -> Result<NamedFile, ReadFault>
         ensures { PassesSome (events self.now log.old) (events self.now log.new) (ReadsTable (facts self.now) folder.now name.now (taken_file result)) };
-}
-
-impl<D: Disk> TableFiles for D {
-    ghost use Rattle.std.specs.Prelude.{None};
-
-    type Log = ();
-
-    ghost facts = { λ d. D.facts d };
-
-    ghost events = { λ _ _. None };
-
-    fn wanted_names(
-        &self,
-        _log: &mut (),
-        alloc: Global,
-        folder: &str,
-        manifest: &Manifest,
-    ) -> Result<Vec<FileName>, ReadFault> {
-        names_in(alloc, self, folder, manifest)
-    }
-
-    fn table_file(
-        &self,
-        _log: &mut (),
-        alloc: Global,
-        folder: &str,
-        name: &FileName,
-    ) -> Result<NamedFile, ReadFault> {
-        read_file(alloc, self, folder, name)
-    }
 }
 
 /// The files of a system, over its timeline.

@@ -5,8 +5,8 @@
 //! folder has it, and asks again, until nothing is missed that is there. A table stays once it is opened. A file that is at fault is
 //! refused where a position needs it, and looked at anew where the next one does.
 //!
-//! Inside: `files` (where names are listed and files are read: a disk alone, or a system with a timeline), `folder` (names and files), `settling` (which table is missed, and until when), `needing` (a position, and those after its
-//! moves), `fault`, `laws`.
+//! Inside: `files` (where names are listed and files are read), `folder` (names and files), `settling` (which table is missed, and until
+//! when), `needing` (a position, and those after its moves), `fault`, `laws`.
 //!
 //! Definitions, in reading order: `Folders` (`Says`, `AreOf`), `Settled` (`IsSettled`, `AnswersBy`), `Reads` (`OpensFolder`, `OpensTables`), `Laws` (`IsWhole`), `Faults`. Its cases
 //! stand in `many.txt` and `tables.txt` of `rows`.
@@ -24,7 +24,7 @@
 //!   same for a position that may be out of scope, and for a position and those after its legal moves.
 //! - CLAIM: `TableFolder::open`, `TableFolder::settle`, `TableFolder::settle_one`, `TableFolder::settle_moves`, clause `made`: all that
 //!   happens outside meanwhile, in order. Opening lists the folder once. Settling reads the file of each table that it opens once, and last
-//!   the one that is refused, if it is listed; where memory is refused, last one file more or none. A disk alone records nothing.
+//!   the one that is refused, if it is listed; where memory is refused, last one file more or none.
 //! - CLAIM: `laws::settled_is_as_whole`; `laws::settled_moves_are_as_whole`; `laws::settled_games_are_as_whole`; `laws::whole_is_one`;
 //!   `laws::whole_is_there`: where no table of the folder is missing, value, distance, probes, verdict, root moves and the outcome of a
 //!   game are those by the set of all tables of the folder; for a game at its positions in play, before which no ply has a verdict.

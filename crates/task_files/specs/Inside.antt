@@ -1,4 +1,3 @@
 -- Intermediate results of functions. Private clauses alone cite them.
 pub mod Placing
-pub mod Reading
 pub mod Readings

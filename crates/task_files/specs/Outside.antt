@@ -1,10 +1,10 @@
 -- What the program reads of folders and files, and what can fail there (this project's own).
-use Rattle.std.specs.Prelude.{◌≡◌, ◌≤◌, ◌⊎◌, ◌++◌, ◌∷◌, [], ℕ, List, length, map, Option, Some, None, Ok, Err}
-use Rattle.std.specs.List.{Contains, AllByRecursion}
+use Rattle.std.specs.Prelude.{◌≡◌, ◌≤◌, ◌⊎◌, ◌++◌, ◌∷◌, ℕ, List, length, map, Option, Some, None, Ok, Err}
+use Rattle.std.specs.List.{Contains}
 use Rattle.system_io.specs.Disks.{DiskFacts, AtFile, AtFolder, most_bytes}
 use Rattle.move_msg.specs.TableNames.{IsFileName}
 use Rattle.move_msg.specs.Files.{File}
-use Rattle.task_files.specs.FileNames.{AreRisingNames, names_of}
+use Rattle.task_files.specs.FileNames.{AreRisingNames}
 use Rattle.move_msg.specs.ToldManifests.{ToldManifest, TellsManifest}
 
 -- the path of a file of a folder
@@ -43,17 +43,6 @@ pub record ListsTwice (told : Option ToldManifest) (names : List (List ℕ)) : T
 abbrev pub IsAtItsPath : DiskFacts → List ℕ → File → Type 0
 IsAtItsPath disk folder f = disk.holds (path_in folder f.name) f.bytes × (length f.bytes ≤ most_bytes)
 
--- the files are the wanted ones of the folder, in rising order of names, each with the bytes at its path
-pub record AreFilesIn (disk : DiskFacts) (folder : List ℕ) (told : Option ToldManifest) (files : List File) : Type 0 where
-  pub names : List (List ℕ)
-  pub listed : disk.lists folder names
-  pub wanted : AreWantedOf told names (names_of files)
-  pub bytes : AllByRecursion (IsAtItsPath disk folder) files
-
--- the folder can't be read, or lists a wanted file twice
-abbrev pub CannotList : DiskFacts → List ℕ → Option ToldManifest → Type 0
-CannotList disk folder told = disk.fails (AtFolder folder) ⊎ ((names : List (List ℕ)) × disk.lists folder names × ListsTwice told names)
-
 -- a wanted file of the folder can't be read
 pub record FailsAt (disk : DiskFacts) (folder : List ℕ) (told : Option ToldManifest) (names : List (List ℕ)) : Type 0 where
   pub name : List ℕ
@@ -72,8 +61,3 @@ abbrev pub IsToldAt : DiskFacts → Option (List ℕ) → Option ToldManifest �
 IsToldAt disk None told = told ≡ None
 IsToldAt disk (Some path) told =
     (text : List ℕ) × disk.holds path text × (length text ≤ most_bytes) × ((t : ToldManifest) × TellsManifest text t × (told ≡ Some t))
-
--- the files of the folder, where one is named
-abbrev pub AreFilesAt : DiskFacts → Option (List ℕ) → Option ToldManifest → List File → Type 0
-AreFilesAt disk None told files = files ≡ []
-AreFilesAt disk (Some folder) told files = AreFilesIn disk folder told files

@@ -1,4 +1,4 @@
-//! What a task names, read over a system with a timeline.
+//! What a task names is read.
 
 ghost use Rattle.std.specs.Prelude.{[], map, option_map, IfOk};
 ghost use Rattle.move_msg.specs.Files.{AreFiles, table_file_of};

@@ -1,4 +1,4 @@
-//! The table files of a folder that are read one by one over a system with a timeline, of which one is held at a time.
+//! The table files of a folder that are read one by one, of which one is held at a time.
 
 ghost use Rattle.std.specs.Prelude.{◌≡◌, length};
 ghost use Rattle.task_files.specs.Inside.Readings.{Looks, looks_taken};

@@ -1,4 +1,4 @@
-//! The table files of a folder, over a system with a timeline.
+//! The table files of a folder.
 
 ghost use Rattle.std.specs.Prelude.{◌≡◌, ◌↔◌, map, string_bytes, IfOk, IsTrue};
 ghost use Rattle.move_msg.specs.Files.{AreFiles, table_file_of};

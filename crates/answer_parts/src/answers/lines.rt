@@ -1,18 +1,14 @@
 //! The lines that the program writes.
 
-ghost use Rattle.std.specs.Prelude.{◌≡◌, ◌≤◌, ◌++◌, ◌∷◌, OnErr, codes, length};
+ghost use Rattle.std.specs.Prelude.{◌≡◌, ◌≤◌, ◌++◌, ◌∷◌, codes, length};
 ghost use Rattle.std.specs.Fmt.{decimal};
 ghost use Rattle.board_core.specs.Verdicts.{verdict_name};
 ghost use Rattle.fen_text.specs.Coordinates.{move_text};
 ghost use Rattle.judge_core.specs.Words.{column_words, columns_words, outcome_words};
-ghost use Rattle.line_teller.specs.ToldLines.{HasFailed};
 ghost use Rattle.move_msg.specs.MessageWords.{message_words};
-ghost use Rattle.move_msg.specs.TextLines.{ended};
 ghost use Rattle.record_audit.specs.Findings.{finding_words};
-ghost use Rattle.answer_parts.specs.Lines.{arbiter_words, look_word, look_words, mark_word, probed_of, refusal_words, root_line_words, root_words, state_word, told_words, words_of};
-ghost use Rattle.answer_parts.specs.Telling.{TellsOne};
+ghost use Rattle.answer_parts.specs.Lines.{arbiter_words, look_word, look_words, mark_word, probed_of, root_line_words, root_words, state_word, told_words, words_of};
 ghost use Rattle.relay_world.specs.Texts.{who_word};
-ghost use Rattle.system_io.specs.Outputs.{WritesFront};
 
 use crate::answers::line_parts::{add_column, add_word, numbered, verdict_word};
 use crate::answers::refusals::Refusal;
@@ -27,7 +23,6 @@ use line_teller::LineWords;
 use move_msg::{ArbiterId, Message};
 use record_audit::Finding;
 use relay_world::State;
-use system_io::{Output, WriteFault};
 use table_folder::FileFault;
 
 /// What an arbiter keeps.
@@ -354,25 +349,5 @@ impl Line {
             Line::Columns(columns) => columns_line(columns),
             Line::Root(line) => line.words(),
         }
-    }
-}
-
-/// Writes a line at once. An error comes only of a type of writer that may refuse a write; a front of the line is written then.
-fn put_line<W: Output>(out: &mut W, line: &Line) -> Result<(), WriteFault>
-    ensures front { WritesFront (W.contents out.old) (W.contents out.new) (ended (words_of line.now)) result }
-    ensures cause { OnErr result (HasFailed W.facts) }
-{
-    line.words().put(out)
-}
-
-/// Writes a refusal of everything, and returns the status 1. An error comes only of a type of writer that may refuse a write; a front
-/// of the refusal is written then.
-pub fn put_refusal<W: Output>(out: &mut W, refusal: Refusal) -> Result<u8, WriteFault>
-    ensures told { TellsOne (refusal_words refusal) (W.contents out.old) (W.contents out.new) result }
-    ensures cause { OnErr result (HasFailed W.facts) }
-{
-    match put_line(out, &Line::Refused(refusal)) {
-        Ok(()) => Ok(1),
-        Err(fault) => Err(fault),
     }
 }

@@ -1,17 +1,15 @@
-//! Sealed ports and files of keys: values from outside, and what is passed on of each kind of datagram.
+//! Systems with keys and files of keys: values from outside, and what is passed on of each kind of datagram.
 
 use crate::tests::comparing::{check_bytes, check_same};
-use sealed_port::{KeyFault, KeyedSystem, Keys, MacKey, Sealed};
+use sealed_port::{KeyFault, KeyedSystem, Keys, MacKey};
 use std::alloc::Global;
 use std::net::{IpAddr, Ipv4Addr, SocketAddr};
 use std::process::Abort;
 use std::time::Duration;
-use system_fakes::{MemoryDisk, MemoryInput, MemoryPort, Passage, Turn};
-use system_io::{NO_TAG, Port};
+use system_fakes::{MemoryDisk, MemoryInput};
+use system_io::NO_TAG;
 use timeline::System;
-use timeline_fakes::{
-    Binds, KeptStart, MemorySystem, MemoryTimeline, Recorded, Turn as SystemTurn, Turns,
-};
+use timeline_fakes::{Binds, KeptStart, MemorySystem, MemoryTimeline, Recorded, Turn, Turns};
 
 /// A row of RFC 4231: a key in hexadecimal digits, a text, and its HMAC.
 struct Vector {
@@ -120,91 +118,8 @@ fn keys(rt: &impl Abort, is_first: bool) -> Keys {
     }
 }
 
-/// What a port with these keys passes on of a datagram, both where it waits and where it waits for a time.
-fn check_passed(rt: &impl Abort, alloc: Global, datagram: &[u8], keys: &Keys, wanted: &[u8]) {
-    let datagrams = [datagram];
-    let turns = [Turn::Comes(0), Turn::Comes(0)];
-    let mut port = Sealed::over(MemoryPort::new(alloc, 1, &datagrams, &turns, None), keys);
-    let mut buffer = [0u8; 64];
-    let length = port.receive(&mut buffer).ok().expect(rt, "a datagram");
-    check_bytes(rt, &buffer[..length], wanted, "what is passed on");
-    let mut buffer = [0u8; 64];
-    let received = port.receive_in_time(Duration::from_millis(1), &mut buffer);
-    let length = received
-        .ok()
-        .expect(rt, "no fault")
-        .expect(rt, "a datagram");
-    check_bytes(rt, &buffer[..length], wanted, "what is passed on in time");
-}
-
-/// Either key opens, and another one doesn't.
-#[test]
-fn opens_by_either_key(rt: HostRuntime) {
-    let datagram = sealed_move();
-    check_passed(&rt, rt.alloc(), &datagram, &keys(&rt, true), &MOVE);
-    check_passed(&rt, rt.alloc(), &datagram, &keys(&rt, false), &MOVE);
-    let others = Keys {
-        first: [9; 32],
-        second: [8; 32],
-    };
-    check_passed(&rt, rt.alloc(), &datagram, &others, &NO_TAG);
-}
-
-/// Each length of a right datagram but its own, and a byte more.
-#[test]
-fn opens_no_other_length(rt: HostRuntime) {
-    let datagram = sealed_move();
-    for length in 0..43 {
-        check_passed(
-            &rt,
-            rt.alloc(),
-            &datagram[..length],
-            &keys(&rt, true),
-            &NO_TAG,
-        );
-    }
-    let mut longer = [0; 44];
-    longer[..43].copy_from_slice(&datagram);
-    check_passed(&rt, rt.alloc(), &longer, &keys(&rt, true), &NO_TAG);
-    check_passed(&rt, rt.alloc(), &NO_TAG, &keys(&rt, true), &NO_TAG);
-}
-
-/// Each bit turned, of the message and of the tag.
-#[test]
-fn opens_nothing_with_a_wrong_bit(rt: HostRuntime) {
-    for bit in 0..344usize {
-        let mut datagram = sealed_move();
-        datagram[bit / 8] ^= 1u8 << (bit % 8) as u32;
-        check_passed(&rt, rt.alloc(), &datagram, &keys(&rt, true), &NO_TAG);
-    }
-}
-
-/// The tag of another game's message behind this one.
-#[test]
-fn opens_nothing_with_another_tag(rt: HostRuntime) {
-    let key = MacKey::of(&key_of(&rt, KEY));
-    let mut other = MOVE;
-    other[4] = 8;
-    let datagram = move_with(&tag_of(&key, &other));
-    check_passed(&rt, rt.alloc(), &datagram, &keys(&rt, true), &NO_TAG);
-}
-
-/// What is sent at a port has the tag of the first key.
-#[test]
-fn sends_with_the_first_key(rt: HostRuntime) {
-    let below = MemoryPort::new(rt.alloc(), 1, &[], &[], None);
-    let mut port = Sealed::over(below, &keys(&rt, true));
-    check_same(&rt, port.send(&MOVE).is_ok(), true, "a send");
-    let passages = port.below().passages().expect(&rt, "memory");
-    let Some(Passage::Handed { to, bytes }) = passages.first() else {
-        panic!(rt; "sent");
-    };
-    check_same(&rt, *to, 0, "the address");
-    check_bytes(&rt, bytes, &sealed_move(), "the datagram");
-}
-
 /// A system in memory, of whose port these calls that receive come.
-fn memory<'a>(turns: &'a [SystemTurn<'a>]) -> MemorySystem<'a> {
+fn memory<'a>(turns: &'a [Turn<'a>]) -> MemorySystem<'a> {
     MemorySystem {
         disk: MemoryDisk {
             files: &[],
@@ -232,8 +147,8 @@ fn memory<'a>(turns: &'a [SystemTurn<'a>]) -> MemorySystem<'a> {
 fn check_passed_on(rt: &impl Abort, alloc: Global, datagram: &[u8], keys: &Keys, wanted: &[u8]) {
     let from = SocketAddr::new(IpAddr::V4(Ipv4Addr::new(127, 0, 0, 1)), 7702);
     let turns = [
-        SystemTurn::Comes(Some(from), datagram),
-        SystemTurn::Comes(Some(from), datagram),
+        Turn::Comes(Some(from), datagram),
+        Turn::Comes(Some(from), datagram),
     ];
     let below = memory(&turns);
     let system = KeyedSystem::over(&below, keys);
@@ -253,6 +168,58 @@ fn check_passed_on(rt: &impl Abort, alloc: Global, datagram: &[u8], keys: &Keys,
         .expect(rt, "a datagram");
     check_bytes(rt, &buffer[..length], wanted, "what is passed on in time");
     check_same(rt, system.sender(&port) == Some(from), true, "the sender");
+}
+
+/// Either key opens, and another one doesn't.
+#[test]
+fn opens_by_either_key(rt: HostRuntime) {
+    let datagram = sealed_move();
+    check_passed_on(&rt, rt.alloc(), &datagram, &keys(&rt, true), &MOVE);
+    check_passed_on(&rt, rt.alloc(), &datagram, &keys(&rt, false), &MOVE);
+    let others = Keys {
+        first: [9; 32],
+        second: [8; 32],
+    };
+    check_passed_on(&rt, rt.alloc(), &datagram, &others, &NO_TAG);
+}
+
+/// Each length of a right datagram but its own, and a byte more.
+#[test]
+fn opens_no_other_length(rt: HostRuntime) {
+    let datagram = sealed_move();
+    for length in 0..43 {
+        check_passed_on(
+            &rt,
+            rt.alloc(),
+            &datagram[..length],
+            &keys(&rt, true),
+            &NO_TAG,
+        );
+    }
+    let mut longer = [0; 44];
+    longer[..43].copy_from_slice(&datagram);
+    check_passed_on(&rt, rt.alloc(), &longer, &keys(&rt, true), &NO_TAG);
+    check_passed_on(&rt, rt.alloc(), &NO_TAG, &keys(&rt, true), &NO_TAG);
+}
+
+/// Each bit turned, of the message and of the tag.
+#[test]
+fn opens_nothing_with_a_wrong_bit(rt: HostRuntime) {
+    for bit in 0..344usize {
+        let mut datagram = sealed_move();
+        datagram[bit / 8] ^= 1u8 << (bit % 8) as u32;
+        check_passed_on(&rt, rt.alloc(), &datagram, &keys(&rt, true), &NO_TAG);
+    }
+}
+
+/// The tag of another game's message behind this one.
+#[test]
+fn opens_nothing_with_another_tag(rt: HostRuntime) {
+    let key = MacKey::of(&key_of(&rt, KEY));
+    let mut other = MOVE;
+    other[4] = 8;
+    let datagram = move_with(&tag_of(&key, &other));
+    check_passed_on(&rt, rt.alloc(), &datagram, &keys(&rt, true), &NO_TAG);
 }
 
 /// What a system with keys sends is opened by either key of another, and not where that has other keys.
