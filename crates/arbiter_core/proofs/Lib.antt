@@ -12,3 +12,4 @@ pub mod InWords
 pub mod WorkedRows
 pub mod Growing
 pub mod Waking
+pub mod Known

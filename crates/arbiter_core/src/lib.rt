@@ -21,7 +21,7 @@
 //! - CLAIM: `Arbiter::deliver`, clause `delivered`: a new record is put once, with an outcome that the keeper states, before it
 //!   is announced. After a put that fails the arbiter is down, what is kept is the old record or the new, and the keeper's
 //!   failures have risen. The bytes are those of the next record in version 2, and of no other.
-//! - CLAIM: `Arbiter::open`, clauses `bad`, `good`, `back`; `ArbiterState::open`, clauses `bad`, `good`, `back`: a bad setup is
+//! - CLAIM: `Arbiter::open`, clauses `bad`, `good`, `back`; `ArbiterState::open`, clauses `bad`, `good`, `back`; `ArbiterState::open_known`, clause `opens`: a bad setup is
 //!   reported first. Over a whole record of this game the arbiter runs from it, over other bytes it is refused, in both cases
 //!   with nothing put; over nothing kept the record of no moves is put once. A refusal gives the setup back. Lack of memory is
 //!   reported only of a get that reports it, of bytes laid out as a record, or over nothing kept.

@@ -2,10 +2,12 @@
 
 ghost use Rattle.std.specs.Prelude.{◌≡◌, ◌≤◌, IfOk, IfErr, IsErr, OnErr, IsTrue, ◌↔◌, IfSome, IfNone, Option, Some, None, Result, Ok, Err, false};
 ghost use Rattle.board_core.specs.Delays.{most_delay};
+ghost use Rattle.fen_text.specs.Written.{fen_of};
+ghost use Rattle.move_msg.specs.Stamps.{IsGameName, stamp_of};
 ghost use Rattle.arbiter_core.specs.Setups.{setup_view, terms_with, rules_at, IsGood, IsIdentity};
 ghost use Rattle.std.specs.Result.{result_map_both};
 ghost use Rattle.judge_core.specs.Answers.{ListsMovesForVerdict};
-ghost use Rattle.arbiter_core.specs.Opens.{OpensIfGood, IsResumed, IsBadKept, IsWhole, at_end, first_record};
+ghost use Rattle.arbiter_core.specs.Opens.{IsOpening, OpensIfGood, IsResumed, IsBadKept, IsWhole, at_end, first_record};
 ghost use Rattle.arbiter_core.specs.Delivers.{IsKept};
 ghost use Rattle.arbiter_core.specs.Resting.{CanWake, awake, setup_with};
 ghost use Rattle.judge_core.specs.Tables.{Holding};
@@ -197,13 +199,17 @@ pub struct RefusedTerms<'a> {
 }
 
 impl<'a> ArbiterState<'a> {
-    /// Opens an arbiter by tables that it is lent, as `Arbiter::open`. Terms are bad only by their name.
-    pub fn open<K: Keeper>(
+    /// Opens the arbiter of the game with this stamp by tables that it is lent, as `Arbiter::open`. The stamp is that of the terms, which
+    /// isn't looked at again.
+    pub fn open_known<K: Keeper>(
         alloc: Global,
         tables: &mut Set<'_>,
         keeper: &mut K,
         terms: Terms<'a>,
+        stamp: Stamp,
     ) -> Result<ArbiterState<'a>, RefusedTerms<'a>>
+        requires named { IsGameName terms.name.items }
+        requires stamped { stamp ≡ stamp_of terms.name.items (fen_of terms.start) terms.manifest.now terms.delay }
         // The tables stay as they were, but for their cache.
         ensures same { tables.new ≡ tables.old }
         ensures back { IfErr result (λ r. r.terms ≡ terms.entry) }
@@ -212,17 +218,12 @@ impl<'a> ArbiterState<'a> {
         ensures runs { IfOk result (λ a. a.is_down ≡ false) }
         // By these tables its record is whole.
         ensures wakes { IfOk result (λ a. CanWake a tables.old) }
-        ensures bad { (IsGood (terms_with terms.entry tables.old) → ⊥) → IfErr result (λ r. r.fault ≡ OpenFault.BadSetup) × IsErr result × (keeper.new ≡ keeper.old) }
         // The record of a running arbiter is what is kept.
         ensures keeps { IfOk result (λ a. IsKept (K.facts.kept keeper.new) (awake a tables.old)) }
-        ensures good { OpensIfGood K.facts (terms_with terms.entry tables.old) keeper.old keeper.new (result_map_both (λ a. awake a tables.old) (λ r. r.fault) result) }
+        ensures opens { IsOpening K.facts (terms_with terms.entry tables.old) keeper.old keeper.new (result_map_both (λ a. awake a tables.old) (λ r. r.fault) result) }
     {
-        let Some(stamp) = identify(&terms) else {
-            return Err(RefusedTerms {
-                fault: OpenFault::BadSetup,
-                terms,
-            });
-        };
+        // Called for its contract: a delay has at most 8 plies.
+        let _plies = terms.delay.plies();
         match recorded(alloc, keeper, tables, &terms, stamp) {
             Ok(played) => Ok(ArbiterState {
                 terms,
@@ -232,6 +233,31 @@ impl<'a> ArbiterState<'a> {
             }),
             Err(fault) => Err(RefusedTerms { fault, terms }),
         }
+    }
+
+    /// Opens an arbiter by tables that it is lent, as `Arbiter::open`. Terms are bad only by their name.
+    pub fn open<K: Keeper>(
+        alloc: Global,
+        tables: &mut Set<'_>,
+        keeper: &mut K,
+        terms: Terms<'a>,
+    ) -> Result<ArbiterState<'a>, RefusedTerms<'a>>
+        ensures same { tables.new ≡ tables.old }
+        ensures back { IfErr result (λ r. r.terms ≡ terms.entry) }
+        ensures setup { IfOk result (λ a. setup_with a tables.old ≡ terms_with terms.entry tables.old) }
+        ensures runs { IfOk result (λ a. a.is_down ≡ false) }
+        ensures wakes { IfOk result (λ a. CanWake a tables.old) }
+        ensures keeps { IfOk result (λ a. IsKept (K.facts.kept keeper.new) (awake a tables.old)) }
+        ensures bad { (IsGood (terms_with terms.entry tables.old) → ⊥) → IfErr result (λ r. r.fault ≡ OpenFault.BadSetup) × IsErr result × (keeper.new ≡ keeper.old) }
+        ensures good { OpensIfGood K.facts (terms_with terms.entry tables.old) keeper.old keeper.new (result_map_both (λ a. awake a tables.old) (λ r. r.fault) result) }
+    {
+        let Some(stamp) = identify(&terms) else {
+            return Err(RefusedTerms {
+                fault: OpenFault::BadSetup,
+                terms,
+            });
+        };
+        ArbiterState::open_known(alloc, tables, keeper, terms, stamp)
     }
 }
 

@@ -1,18 +1,12 @@
 -- What opening an arbiter over a draft leaves.
-use Rattle.std.proofs.Common.{◌≡◌, ◌⊎◌, inl, inr, ℕ, List, Option, Some, None, refl, ap}
-use Rattle.std.specs.Prelude.{Ok, Err, IfErr, IsErr}
+use Rattle.std.proofs.Common.{◌≡◌, ◌⊎◌, inl, inr, List, ℕ, Option, Some, None, refl}
+use Rattle.std.specs.Prelude.{Ok}
 use Rattle.arbiter_core.specs.Answering.{Identity}
-use Rattle.arbiter_core.specs.Opens.{IsOpening, OpenResult, Opens, OpensIfGood, OpensOver}
-use Rattle.arbiter_core.specs.Setups.{IsGood, SetupView}
-use Rattle.arbiter_core.specs.Keeping.{KeeperFacts}
+use Rattle.arbiter_core.specs.Opens.{IsOpening, Opens, OpensOver}
+use Rattle.arbiter_core.specs.Setups.{SetupView}
 use Rattle.arbiter_core.specs.Views.{View}
-use Rattle.arbiter_core.specs.declared.fault.OpenFault.TheVariants as open_fault
 use Rattle.arbiter_server.proofs.OpenedLaws.{good_unless}
 use Rattle.game_folder.specs.Drafts.{DraftView, draft_facts}
-
-pub is_opening : {K : Type 0} (facts : KeeperFacts K) (setup : SetupView) (before now : K) (told : OpenResult) → OpensIfGood facts setup before now told → ((IsGood setup → ⊥) → IfErr told (λ fault. fault ≡ open_fault.BadSetup) × IsErr told × (now ≡ before)) → IsOpening facts setup before now told
-is_opening facts setup before now (Ok v) good bad = record { good = good; bad = λ g. absurd (let e = (bad g).1 in cc) }
-is_opening facts setup before now (Err fault) good bad = record { good = good; bad = λ g. (ap Err (bad g).0, (bad g).2) }
 
 -- an arbiter that runs goes on from what was found, with nothing to be put; or its first record is to be put
 abbrev pub IsBegun : DraftView → DraftView → Type 0

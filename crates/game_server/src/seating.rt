@@ -54,7 +54,13 @@ fn open_over<'a, S: System, G: Games<S> + Drop>(
         delay,
     };
     let mut kept = kept;
-    match ArbiterState::open(shared.alloc, &mut shared.tables, &mut kept.draft, terms) {
+    match ArbiterState::open_known(
+        shared.alloc,
+        &mut shared.tables,
+        &mut kept.draft,
+        terms,
+        kept.stamp,
+    ) {
         Ok(state) => match shared.games.keep(system, timeline, &mut kept) {
             Ok(()) => Ok(Seat { state, kept }),
             Err(_) => Err(OpenGameError::Keeper),

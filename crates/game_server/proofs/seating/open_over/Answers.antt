@@ -6,7 +6,7 @@ use Rattle.game_folder.specs.Drafts.{DraftView}
 use Rattle.game_server.specs.Fates.{SeatOpened, SeatRefused, SeatUnkept}
 use Rattle.game_folder.specs.Holdings.{IsKeptIn}
 use Rattle.game_server.specs.Seats.{common_in}
-use Rattle.game_server.proofs.Openings.{begun, is_opening}
+use Rattle.game_server.proofs.Openings.{begun}
 use Rattle.game_server.proofs.SeatLaws.{begun_known, kept_if_any, kept_known, opened_its, quiet_nothing, unkept_some}
 use Rattle.timeline.proofs.EventLaws.{adds_none}
 use Rattle.game_server.proofs.seating.open_over.Goals as goal
@@ -18,15 +18,15 @@ returns-in-Ok-keep g c =
     let old = c.args.shared.now in
     let h = c.in-Ok-keep.ensures.made in
     let k = h.2 in
-    let after = c.open.new.keeper in
+    let after = c.open_known.new.keeper in
     let v = awake c.in-Ok.state old.tables in
-    let opening = is_opening _ _ c.args.kept.draft after (Ok v) c.in-Ok.ensures.good c.in-Ok.ensures.bad in
+    let opening = c.in-Ok.ensures.opens in
     record {
       made = (
         h.0,
         h.1,
         record {
-          same = record { config = refl; tables = c.open.ensures.same };
+          same = record { config = refl; tables = c.open_known.ensures.same };
           still = k.still;
           noted = k.noted;
           opens = SeatOpened after v opening (kept_if_any o facts _ _ _ _ _ h.0 k) (ap (λ (d : DraftView). Ok (moment v d)) k.draft);
@@ -53,16 +53,16 @@ returns-in-Ok g c =
     let old = c.args.shared.now in
     let h = c.in-Err-keep.ensures.made in
     let k = h.2 in
-    let after = c.open.new.keeper in
+    let after = c.open_known.new.keeper in
     let v = awake c.in-Ok.state old.tables in
-    let opening = is_opening _ _ c.args.kept.draft after (Ok v) c.in-Ok.ensures.good c.in-Ok.ensures.bad in
+    let opening = c.in-Ok.ensures.opens in
     let lost = unkept_some o facts _ _ _ _ _ h.0 k in
     record {
       made = (
         h.0,
         h.1,
         record {
-          same = record { config = refl; tables = c.open.ensures.same };
+          same = record { config = refl; tables = c.open_known.ensures.same };
           still = k.still;
           noted = k.noted;
           opens = SeatUnkept after v lost.0 opening lost.1 lost.2 refl;
@@ -75,18 +75,24 @@ returns-in-Ok g c =
 pub returns : goal.returns
 returns g c =
     let o = g.S.System.outside c.args.system.now in
-    let opening = is_opening _ _ c.args.kept.draft c.open.new.keeper (Err c.in-Err.refused.fault) c.in-Err.ensures.good c.in-Err.ensures.bad in
+    let opening = c.in-Err.ensures.opens in
     record {
       made = (
         _,
         adds_none o c.args.timeline.now,
         record {
-          same = record { config = refl; tables = c.open.ensures.same };
+          same = record { config = refl; tables = c.open_known.ensures.same };
           still = quiet_nothing _ _;
           noted = λ stamp bytes noted. noted;
-          opens = SeatRefused c.open.new.keeper c.in-Err.refused.fault opening refl refl (ap Err c.unopened.ensures);
+          opens = SeatRefused c.open_known.new.keeper c.in-Err.refused.fault opening refl refl (ap Err c.unopened.ensures);
           ok = tt;
           knows = tt;
         },
       );
     }
+
+pub open_known-requires-clause-named : goal.open_known-requires-clause-named
+open_known-requires-clause-named g c = c.requires.game.is_name
+
+pub open_known-requires-clause-stamped : goal.open_known-requires-clause-stamped
+open_known-requires-clause-stamped g c = c.requires.game.stamped
