@@ -7,3 +7,4 @@ pub mod Acking
 pub mod Serving
 pub mod ServedWeaving
 pub mod ServedStoring
+pub mod GettingOn

@@ -5,3 +5,4 @@ pub mod Seals
 pub mod Served
 pub mod ServedWeaves
 pub mod ServedStores
+pub mod Progress

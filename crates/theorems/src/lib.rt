@@ -53,7 +53,7 @@ mod served_stores;
 mod sources;
 
 pub use arbiters::{arbiters_are_worlds, arbiters_tell_the_truth};
-pub use hosts::{acks_are_found, hosts_are_worlds, hosts_tell_the_truth};
+pub use hosts::{acks_are_found, hosts_are_worlds, hosts_get_on, hosts_tell_the_truth};
 pub use seals::no_tag_no_forgery;
 pub use served::{
     served_are_hosted, served_are_woven, served_folder_is_hosted, served_game_is_hosted,
