@@ -8,3 +8,6 @@ pub mod Serving
 pub mod ServedWeaving
 pub mod ServedStoring
 pub mod GettingOn
+pub mod Reporting
+pub mod Believing
+pub mod Ending

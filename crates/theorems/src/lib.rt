@@ -59,4 +59,4 @@ pub use served::{
     served_are_hosted, served_are_woven, served_folder_is_hosted, served_game_is_hosted,
 };
 pub use served_stores::served_stores_are_woven;
-pub use sources::{sends_the_log, sources_tell_the_truth};
+pub use sources::{sends_the_log, sources_get_on, sources_tell_the_truth};
