@@ -12,7 +12,6 @@ use Rattle.move_msg.specs.declared.arbiter_id.ArbiterId.{ArbiterId}
 use Rattle.move_msg.specs.declared.arbiter_id.ArbiterId.TheVariants.{A, B}
 use Rattle.move_msg.specs.declared.message.Message.TheVariants.{Ack}
 use Rattle.move_msg.specs.declared.stamp.Stamp.{Stamp}
-use Rattle.move_notation.specs.declared.notation.Notation.{Notation}
 use Rattle.arbiter_core.specs.Recording.{Recorded}
 use Rattle.arbiter_core.proofs.Reach.{reach_within}
 use Rattle.relay_world.specs.declared.event.Event.{Event}
@@ -137,19 +136,19 @@ unread : (game : Judged) (all : List Passing) (why : ReadFault) → EndsAsGame g
 unread game all fault.Unreadable = tt
 unread game all fault.OutOfMemory = tt
 
-not_sent : (game : Judged) (all : List Passing) (notation : Notation) (p : Parts) (number : ℕ) (line : List ℕ) (end : End) → IsRefusedLine notation p number line end → EndsAsGame game all end
-not_sent game all notation p number line (at_end.Open count) c = absurd c
-not_sent game all notation p number line (at_end.Ruled r) c = absurd c
-not_sent game all notation p number line (at_end.Clashed x) c = c
-not_sent game all notation p number line (at_end.Started s) c = c
-not_sent game all notation p number line (at_end.Belied r) c = c
-not_sent game all notation p number line (at_end.NotAMove place) c = tt
-not_sent game all notation p number line (at_end.Illegal place) c = tt
-not_sent game all notation p number line at_end.TooLong c = tt
-not_sent game all notation p number line at_end.Lost c = c
-not_sent game all notation p number line at_end.PortLost c = absurd c
-not_sent game all notation p number line at_end.Unread c = tt
-not_sent game all notation p number line at_end.OutOfMemory c = tt
+not_sent : (game : Judged) (all : List Passing) (g : SourceTerms) (p : Parts) (number : ℕ) (line : List ℕ) (end : End) → IsRefusedLine g.terms.notation p number line end → EndsAsGame game all end
+not_sent game all g p number line (at_end.Open count) c = absurd c
+not_sent game all g p number line (at_end.Ruled r) c = absurd c
+not_sent game all g p number line (at_end.Clashed x) c = c
+not_sent game all g p number line (at_end.Started s) c = c
+not_sent game all g p number line (at_end.Belied r) c = c
+not_sent game all g p number line (at_end.NotAMove place) c = tt
+not_sent game all g p number line (at_end.Illegal place) c = tt
+not_sent game all g p number line at_end.TooLong c = tt
+not_sent game all g p number line at_end.Lost c = c
+not_sent game all g p number line at_end.PortLost c = absurd c
+not_sent game all g p number line at_end.Unread c = tt
+not_sent game all g p number line at_end.OutOfMemory c = tt
 
 -- ---- the source's position
 
@@ -204,7 +203,7 @@ module _ (cause : ReadFault → Type 0) (game : Judged) (events : List Event) (r
 
   ends : EndsRun cause r.terms r.at r.sent r.more r.end → EndsAsGame game (all_heard r) r.end
   ends (NoLine why had_come c e none happened) = subst (EndsAsGame game (all_heard r)) (sym e) (unread game (all_heard r) why)
-  ends (NotSent line had_come input read c none happened) = not_sent game (all_heard r) r.terms.terms.notation r.at.position (length r.at.moves) line r.end c
+  ends (NotSent line had_come input read c none happened) = not_sent game (all_heard r) r.terms r.at.position (length r.at.moves) line r.end c
   ends (InputEnds had_come rest done c none happened) = input_ends rest had_come c none happened
   ends (LastSent last c lost) = last_sent last c
 

@@ -4,10 +4,10 @@ pub mod Weaving
 pub mod Stopping
 pub mod Joining
 pub mod Acking
+pub mod GettingOn
 pub mod Serving
 pub mod ServedWeaving
 pub mod ServedStoring
-pub mod GettingOn
 pub mod Reporting
 pub mod Believing
 pub mod Ending
