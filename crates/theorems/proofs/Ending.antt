@@ -1,6 +1,6 @@
 -- A source to which the reports of the whole game come ends as the game does.
 use Rattle.std.proofs.Common.{◌≡◌, ◌∙◌, ◌⊎◌, ◌++◌, ◌+◌, ◌<◌, ◌≤◌, ℕ, Bool, List, [], ◌∷◌, append-nil, length, length-append, Option, Some, None, inl, inr, refl, sym, ap, subst, arith}
-use Rattle.std.specs.Prelude.{IfSome, Ok, Err, option_and_then, slice_get}
+use Rattle.std.specs.Prelude.{IfSome, Ok, Err, option_and_then}
 use Rattle.board_core.specs.declared.moves.Move.{Move as Moves}
 use Rattle.board_core.specs.declared.parts.Parts.{Parts}
 use Rattle.board_core.specs.Moves.{Legal}
@@ -16,9 +16,9 @@ use Rattle.arbiter_core.specs.Recording.{Recorded}
 use Rattle.arbiter_core.proofs.Reach.{reach_within}
 use Rattle.relay_world.specs.declared.event.Event.{Event}
 use Rattle.relay_world.specs.Headline.{IsRecordOf, kept_count}
-use Rattle.relay_world.specs.Laws.{world_after}
+use Rattle.relay_world.specs.Laws.{count_in, world_after}
 use Rattle.relay_world.specs.Worlds.{Judged, side_in}
-use Rattle.relay_world.proofs.Schedules.{ack_at, holds_after}
+use Rattle.relay_world.proofs.Schedules.{acks, holds_after}
 use Rattle.relay_world.proofs.Steps.{count_at, one_first, side_at}
 use Rattle.source_core.specs.declared.lines.End.{End}
 use Rattle.source_core.specs.declared.lines.End.TheVariants as at_end
@@ -68,11 +68,8 @@ module _ (game : Judged) (events : List Event) (all : List Passing) (comes : Com
   few who n (inl (count, came, le)) =
       let sent = comes (Ack game.stamp who count) refl came in
       let most = kept_few (side_in (world_after game events) who).kept (side_at game (world_after game events) who (holds_after game events)).kept in
-      let at = acked who count sent.0 sent.1 in
+      let at : count ≤ count_in (world_after game events) who = subst (λ (es : List Event). count ≤ count_in (world_after game es) who) (append-nil events) (acks game events [] sent.0 game.stamp who count sent.1) in
       omega (arith, le, at, most)
-    where
-      acked : (who : ArbiterId) (count i : ℕ) → slice_get (world_after game events).log i ≡ Some (Ack game.stamp who count) → count ≤ kept_count (side_in (world_after game events) who).kept
-      acked who count i e = ack_at game (world_after game events) i game.stamp who count (holds_after game events) e
   few who n (inr (r, ruled, le)) = let first = first_of game events all who r comes ruled in let within = first.within in omega (arith, le, within)
 
   not_started : (origin : Origin) (s : Started) → EndsStarted origin game.stamp (length game.moves) s all → ⊥
@@ -84,10 +81,10 @@ module _ (game : Judged) (events : List Event) (all : List Passing) (comes : Com
 
     module _ (reported : ((r : Ruling) × IsRuled game.stamp r all) ⊎ (HasNoVerdict game × HasAcknowledged game.stamp A (length game.moves) all × HasAcknowledged game.stamp B (length game.moves) all)) where
       none_if_open : ((r : Ruling) → IsRuled game.stamp r all → ⊥) → HasNoVerdict game
-      none_if_open no = by reported
+      none_if_open unruled = by reported
         where
           by : ((r : Ruling) × IsRuled game.stamp r all) ⊎ (HasNoVerdict game × HasAcknowledged game.stamp A (length game.moves) all × HasAcknowledged game.stamp B (length game.moves) all) → HasNoVerdict game
-          by (inl r) = absurd (no r.0 r.1)
+          by (inl r) = absurd (unruled r.0 r.1)
           by (inr h) = h.0
 
       -- the last move isn't unsettled
