@@ -38,7 +38,8 @@ use Rattle.system_io.specs.declared.reading.ReadFault.{ReadFault}
 use Rattle.system_io.specs.declared.reading.ReadFault.TheVariants as fault
 use Rattle.timeline.specs.Events as timeline
 use Rattle.timeline.specs.Events.{LineRead}
-use Rattle.theorems.specs.Sources.{ComesOfWorld, EndsAsGame, HasNoVerdict, HasReportedAll, IsRunOfSource, SourceRun, SourcesGetOn, all_heard}
+use Rattle.theorems.specs.Progress.{HasNoVerdict}
+use Rattle.theorems.specs.Sources.{ComesOfWorld, EndsAsGame, HasReportedAll, IsRunOfSource, SourceRun, SourcesGetOn, all_heard}
 use Rattle.theorems.proofs.Believing.{believed}
 use Rattle.theorems.proofs.Reporting.{first_of, no_two, same_ruling}
 
@@ -67,7 +68,7 @@ module _ (game : Judged) (events : List Event) (all : List Passing) (comes : Com
   few : (who : ArbiterId) (n : ℕ) → HasMoves game.stamp who n all → n ≤ length game.moves
   few who n (inl (count, came, le)) =
       let sent = comes (Ack game.stamp who count) refl came in
-      let most = kept_few (side_in (world_after game events) who).kept (side_at game (world_after game events) who (holds_after game events)).kept in
+      let most : count_in (world_after game events) who ≤ length game.moves = kept_few (side_in (world_after game events) who).kept (side_at game (world_after game events) who (holds_after game events)).kept in
       let at : count ≤ count_in (world_after game events) who = subst (λ (es : List Event). count ≤ count_in (world_after game es) who) (append-nil events) (acks game events [] sent.0 game.stamp who count sent.1) in
       omega (arith, le, at, most)
   few who n (inr (r, ruled, le)) = let first = first_of game events all who r comes ruled in let within = first.within in omega (arith, le, within)

@@ -1,5 +1,5 @@
 -- Two hosts that take the moves of a game in order get on with it.
-use Rattle.std.proofs.Common.{◌≡◌, ◌∙◌, ℕ, ◌+◌, ◌<◌, ◌≤◌, Bool, true, false, cond, List, [], ◌∷◌, length, min, Option, Some, None, zero, suc, inl, inr, refl, sym, ap, subst, arith}
+use Rattle.std.proofs.Common.{◌≡◌, ◌∙◌, ℕ, ◌+◌, ◌<◌, ◌≤◌, Bool, true, false, cond, List, [], ◌∷◌, ◌++◌, length, min, Option, Some, None, zero, suc, inl, inr, refl, sym, ap, subst, arith}
 use Rattle.std.specs.Prelude.{◌⊎◌, ◌≢◌, IfSome, IsSome, Result, Ok, Err, is_ok, slice_get, slice_index}
 use Rattle.std.proofs.lemmas.Bool.{and_from, cond-false, cond_both, eq-eqb}
 use Rattle.std.proofs.lemmas.Slice.Eq.{bytes_eq-Decides}
@@ -22,7 +22,7 @@ use Rattle.arbiter_core.proofs.Reach.{last_reached, reach_within}
 use Rattle.arbiter_core.specs.Setups.{rules_at}
 use Rattle.arbiter_core.specs.Views.{View, spelled_as}
 use Rattle.arbiter_core.specs.Recording.{Recorded, ReorderBuffer, last_ply, move_count, record_at}
-use Rattle.arbiter_core.specs.Answering.{Answer, Identity, Puts, Refuses, Sends, answer_heard, answer_to}
+use Rattle.arbiter_core.specs.Answering.{Answer, Identity, Puts, Refuses, Sends, answer_heard, answer_to, told_now}
 use Rattle.arbiter_core.specs.Delivers.{Delivers, Exchange, IsWritten, Lands, Moment, PutsIfAny, RefusesOrSends, Told, answer_at, heard}
 use Rattle.arbiter_server.specs.Acts as act
 use Rattle.arbiter_server.specs.Acts.{Action, acts_of, game_of, is_stamp}
@@ -38,15 +38,16 @@ use Rattle.relay_world.proofs.Faithful.{faithful_of}
 use Rattle.relay_world.proofs.Progress.{runs_still}
 use Rattle.relay_world.proofs.Rising.{rises, turned_side}
 use Rattle.relay_world.proofs.Schedules.{grows_at}
-use Rattle.relay_world.proofs.Steps.{Holds, first_holds, right_of, run_goes}
+use Rattle.relay_world.proofs.Steps.{Holds, IsSound, all_at, first_holds, right_of, run_goes, side_at}
 use Rattle.relay_world.proofs.Whole.{at_last}
 use Rattle.theorems.specs.Nets.{NetStep, Site, SystemState, changed, first_net, sent_with, site_of}
 use Rattle.theorems.specs.Interleavings.{AnswersDatagram, AreWoven, AtA, AtB, Asks, Does, Ends, GivesFor, GivesIf, HostEvent, Interleaving, IsSiteOfLife, Step, deeds_a, deeds_b, first_run, if_up, later_runs, open_with}
-use Rattle.theorems.specs.Progress.{BothGetOn, GetsOn, HasSomeMoves, HostsGetOn, IsTaken, IsWhole, TakesAll, TakesMove, TakesMoves}
+use Rattle.theorems.specs.Progress.{AreLegal, BothGetOn, GetsOn, HasSomeMoves, HasTold, HostsGetOn, IsTaken, IsWhole, TakesAll, TakesMove, TakesMoves}
 use Rattle.theorems.proofs.Acking.{has_moves}
 use Rattle.theorems.proofs.Joining.{DeedsGo, RunGoes, RunsGo, all_go, deed_goes, none_left}
 use Rattle.theorems.proofs.Netting as netting
 use Rattle.theorems.proofs.Netting.{RunsAt, RunsSo, ShowsNet, deliver_is, running_hears, shows_at}
+use Rattle.theorems.proofs.Replying.{Reports, among_later, reports, tells_all, told_later}
 use Rattle.theorems.proofs.Seeing.{Seen, seen_facts}
 use Rattle.theorems.proofs.Weaving.{NetGoes}
 
@@ -99,15 +100,26 @@ module _ {K : Type 0} (facts : KeeperFacts K) (old new : View) (before now : K) 
       landed FailsOld l = absurd (kept l.0)
       landed FailsNew l = absurd (kept l.0)
 
--- ---- how far a side is
+  -- what it reports goes out
+  sends : (me : Identity) (a : Answer) → RefusesOrSends old before now new told a → PutsIfAny facts old before now new told a → Reports me old.kept a → sent_with told ≡ told_now me (recorded_by old.kept a)
+  sends me (Refuses fault) r p is = absurd is
+  sends me (Sends outputs later) (inl r) p is = ap sent_with r.answer ∙ is
+  sends me (Sends outputs later) (inr r) p is = absurd (memory r.1.answer)
+  sends me (Puts next outputs later) r (inl u) is = absurd (memory u.answer)
+  sends me (Puts next outputs later) r (inr p) is = landed p.keep p.lands
+    where
+      landed : (keep : Keep) → Lands keep old next outputs later (facts.kept before) (facts.kept now) new told → sent_with told ≡ told_now me next
+      landed Good l = ap sent_with l.0 ∙ is
+      landed FailsOld l = absurd (kept l.0)
+      landed FailsNew l = absurd (kept l.0)
 
--- so many first moves are kept, or as many as the game reaches; and something is kept, where these are any
-record IsAsFar (game : Judged) (n : ℕ) (kept : Option Recorded) : Type 0 where
-  low : min n (last_ply game.rules game.moves) ≤ kept_count kept
-  some : 0 < n → IsSome kept
+-- ---- how far a host is
 
-is_kept : (game : Judged) (kept : Option Recorded) (one : Recorded) (n : ℕ) → kept ≡ Some one → min n (last_ply game.rules game.moves) ≤ move_count one → IsAsFar game n kept
-is_kept game kept one n e low = record { low = rw e low; some = λ _. rw e refl }
+-- So many first moves are kept, or as many as the game reaches; something is kept, where these are any; and where they are all, it has been told.
+record HasGot (game : Judged) (who : ArbiterId) (n : ℕ) (world : World) : Type 0 where
+  low : min n (last_ply game.rules game.moves) ≤ kept_count (side_in world who).kept
+  some : 0 < n → IsSome (side_in world who).kept
+  told : AreLegal game → 0 < n → last_ply game.rules game.moves ≤ n → HasTold game who world.log
 
 same_who : (who : ArbiterId) → is_same_arbiter who who ≡ true
 same_who A = refl
@@ -132,6 +144,16 @@ module _ (game : Judged) (short : length game.moves ≤ 4096) (world : World) (h
       let up : min (n + 1) (last_ply game.rules game.moves) ≤ kept_count (side_in late who).kept =
       rises game world who event n holds short comes runs (runs_still game world who i runs) (subst (λ k. min n (last_ply game.rules game.moves) ≤ k) (sym count) low) in
       subst (λ k. min (n + 1) (last_ply game.rules game.moves) ≤ k) (ap kept_count there_kept) up
+
+move_reports : (game : Judged) → AreLegal game → length game.moves ≤ 4096 → (who : ArbiterId) (old : Recorded) (window : ReorderBuffer) (n : ℕ) (sender : Sender) (m : Word) → IsRecordOf game.rules game.moves old → slice_get game.moves n ≡ Some m
+    → min n (last_ply game.rules game.moves) ≤ move_count old → Reports (identity game who) old (answer_to game.rules (identity game who) old window (Move game.stamp sender n m))
+unfolding answer_to
+move_reports game legal short who old window n sender m held there low = reports game legal short who old window n m held there (is_within game.moves n m there) low
+  where
+    is_within : (moves : List Word) (k : ℕ) (w : Word) → slice_get moves k ≡ Some w → k < length moves
+    is_within [] k w e = cc
+    is_within (x ∷ moves) zero w e = omega arith
+    is_within (x ∷ moves) (suc k) w e = let lt = is_within moves k w e in omega (arith, lt)
 
 -- ---- what is kept isn't lost
 
@@ -183,11 +205,11 @@ record At (game : Judged) (net : SystemState) (world : World) : Type 0 where
   shows : ShowsNet game net world
   holds : Holds game world
 
--- it stands for a later world then, in which each side is as far
+-- it stands for a later world then, in which each host is as far
 record Later (game : Judged) (early : World) (net : SystemState) : Type 0 where
   world : World
   at : At game net world
-  still : (who : ArbiterId) (n : ℕ) → IsAsFar game n (side_in early who).kept → IsAsFar game n (side_in world who).kept
+  still : (who : ArbiterId) (n : ℕ) → HasGot game who n early → HasGot game who n world
 
 moves_on : (game : Judged) (old new : SystemState) (world : World) (acts : List (NetStep Seen)) → At game old world → NetGoes game old acts new → Later game world new
 moves_on game old new world acts at g =
@@ -197,20 +219,32 @@ moves_on game old new world acts at g =
       world = world_after_all game world s.0;
       at = record { shows = s.1; holds = go.holds };
       still = λ who n h. let grown = (grows_at game world (world_after_all game world s.0) who go).count in let low = h.low in
-          record { low = omega (arith, grown, low); some = λ lt. all_stays game world s.0 who (h.some lt) };
+          record {
+            low = omega (arith, grown, low);
+            some = λ lt. all_stays game world s.0 who (h.some lt);
+            told = λ legal lt le. told_later game who world.log (world_after_all game world s.0).log (λ m among. (among.0, go.log among.0 m among.1)) (h.told legal lt le);
+          };
     }
 
 changed_site : (net : SystemState) (who : ArbiterId) (site : Site) (outputs : List Message) → site_of (changed net who site outputs) who ≡ site
 changed_site net A site outputs = refl
 changed_site net B site outputs = refl
 
+changed_log : (net : SystemState) (who : ArbiterId) (site : Site) (outputs : List Message) → (changed net who site outputs).log ≡ net.log ++ outputs
+changed_log net A site outputs = refl
+changed_log net B site outputs = refl
+
 -- ---- one host
 
-module _ {K : Type 0} (s : Keepers K) (game : Judged) (short : length game.moves ≤ 4096) (who : ArbiterId) (old new : SystemState) (world late : World) (at : At game old world) (shows : ShowsNet game new late) where
-  module _ (n : ℕ) (stamp : List ℕ) (e : Exchange K) (t : IsTaken game n stamp e) (g : AnswersDatagram s.facts game old who e new) (far : IsAsFar game n (side_in world who).kept) where
+module _ {K : Type 0} (s : Keepers K) (game : Judged) (short : length game.moves ≤ 4096) (who : ArbiterId) (old new : SystemState) (world late : World) (at : At game old world) (then_at : At game new late) where
+  module _ (n : ℕ) (stamp : List ℕ) (e : Exchange K) (t : IsTaken game n stamp e) (g : AnswersDatagram s.facts game old who e new) (far : HasGot game who n world) where
     -- an arbiter that is open takes the move
-    taken_at : (m : Moment K) → IsSiteOfLife s.facts (Open m) (site_of old who) → Delivers s.facts m e → IsAsFar game (n + 1) (side_in late who).kept
-    taken_at m here d = is_kept game (side_in late who).kept (recorded_by v.kept answer) (n + 1) (late_kept ∙ ap Some next.kept) up
+    taken_at : (m : Moment K) → IsSiteOfLife s.facts (Open m) (site_of old who) → Delivers s.facts m e → HasGot game who (n + 1) late
+    taken_at m here d = record {
+      low = subst (λ (o : Option Recorded). min (n + 1) (last_ply game.rules game.moves) ≤ kept_count o) (sym is_late) up;
+      some = λ _. subst (λ (o : Option Recorded). IsSome o) (sym is_late) refl;
+      told = told;
+    }
       where
         v : View
         v = m.arbiter
@@ -261,12 +295,32 @@ module _ {K : Type 0} (s : Keepers K) (game : Judged) (short : length game.moves
             ∙ ap (λ (b : Bool). cond b None (Some e.after.arbiter)) is_up
 
         late_runs : RunsAt game who e.after.arbiter (side_in late who)
-        late_runs = subst (λ (x : Option View). RunsSo game who x (side_in late who)) stands (shows_at game new late who shows).runs
+        late_runs = subst (λ (x : Option View). RunsSo game who x (side_in late who)) stands (shows_at game new late who then_at.shows).runs
 
-        late_kept : (side_in late who).kept ≡ Some e.after.arbiter.kept
-        late_kept = (late_runs.is is_up).1
+        is_late : (side_in late who).kept ≡ Some (recorded_by v.kept answer)
+        is_late = (late_runs.is is_up).1 ∙ ap Some next.kept
 
-    taken : (life mid : GameStatus K) → IsSiteOfLife s.facts life (site_of old who) → AnswersTo s life e mid → IsAsFar game (n + 1) (side_in late who).kept
+        sound : slice_get game.moves n ≡ Some t.move
+        sound = all_at (IsSound game.rules game.moves (kept_count world.a.kept) (kept_count world.b.kept)) world.log sent.0 move at.holds.log there
+
+        held : IsRecordOf game.rules game.moves v.kept
+        held = subst (λ (o : Option Recorded). IfSome o (IsRecordOf game.rules game.moves)) kept (side_at game world who at.holds).kept
+
+        late_held : IsRecordOf game.rules game.moves (recorded_by v.kept answer)
+        late_held = subst (λ (o : Option Recorded). IfSome o (IsRecordOf game.rules game.moves)) is_late (side_at game late who then_at.holds).kept
+
+        told : AreLegal game → 0 < n + 1 → last_ply game.rules game.moves ≤ n + 1 → HasTold game who late.log
+        told legal lt le =
+            let reported : Reports (identity game who) v.kept answer = move_reports game legal short who v.kept v.window n t.sender t.move held sound low in
+            let goes_out : sent_with e.told ≡ told_now (identity game who) (recorded_by v.kept answer) =
+            sends s.facts v e.after.arbiter m.keeper e.after.keeper e.told t.memory t.kept (identity game who) answer
+            (subst (RefusesOrSends v m.keeper e.after.keeper e.after.arbiter e.told) answer_is d.answered)
+            (subst (PutsIfAny s.facts v m.keeper e.after.keeper e.after.arbiter e.told) answer_is d.put) reported in
+            let all : HasTold game who (sent_with e.told) = subst (HasTold game who) (sym goes_out) (tells_all game legal short who (recorded_by v.kept answer) late_held (omega (arith, le, up))) in
+            let log : new.log ≡ old.log ++ sent_with e.told = ap (λ (x : SystemState). x.log) g.net ∙ changed_log old who (open_with g.found (if_up e.after.arbiter)) (sent_with e.told) in
+            subst (HasTold game who) (sym log ∙ then_at.shows.log) (told_later game who (sent_with e.told) (old.log ++ sent_with e.told) (among_later old.log (sent_with e.told)) all)
+
+    taken : (life mid : GameStatus K) → IsSiteOfLife s.facts life (site_of old who) → AnswersTo s life e mid → HasGot game who (n + 1) late
     taken Fresh mid here to = absurd to
     taken (Shut left) mid here to = absurd to
     taken (Open m) mid here to = taken_at m here to.0
@@ -277,7 +331,7 @@ module _ {K : Type 0} (s : Keepers K) (game : Judged) (short : length game.moves
   its_run life end a run (next ∷ later) r = r.0
 
   deed_takes : (life end : GameStatus K) (deed : HostEvent K) (deeds : List (HostEvent K)) (n : ℕ) → TakesMove game n deed → IsSiteOfLife s.facts life (site_of old who) → GivesFor s.facts game old who deed new → DeedsGo s game who life (deed ∷ deeds) end
-      → IsAsFar game n (side_in world who).kept → IsAsFar game (n + 1) (side_in late who).kept
+      → HasGot game who n world → HasGot game who (n + 1) late
   deed_takes life end (Does (act.Answers stamp e)) deeds n t here g r far =
       let a : Action K = act.Answers stamp e in
       let own : is_stamp game.stamp (game_of a) ≡ true = (bytes_eq-Decides stamp game.stamp).1 t.own in
@@ -295,31 +349,35 @@ module _ {K : Type 0} (s : Keepers K) (game : Judged) (short : length game.moves
 
 -- ---- both hosts
 
-no_further : (game : Judged) (n to : ℕ) (kept : Option Recorded) → to ≤ n → IsAsFar game n kept → IsAsFar game to kept
-no_further game n to kept le far = let low = far.low in record { low = omega (arith, le, low); some = λ lt. far.some (omega (arith, le, lt)) }
+no_further : (game : Judged) (who : ArbiterId) (n to : ℕ) (world : World) → to ≤ n → HasGot game who n world → HasGot game who to world
+no_further game who n to world le far = let low = far.low in record {
+  low = omega (arith, le, low);
+  some = λ lt. far.some (omega (arith, le, lt));
+  told = λ legal lt end. far.told legal (omega (arith, le, lt)) (omega (arith, le, end));
+}
 
 -- what comes of a deed, whether it takes the next move or not
-next_from : {K R : Type 0} (game : Judged) (n to : ℕ) (deed : HostEvent K) (deeds : List (HostEvent K)) (kept : Option Recorded) → (TakesMove game n deed → IsAsFar game (n + 1) kept) → IsAsFar game n kept
-    → (TakesMove game n deed × TakesMoves game (n + 1) to deeds) ⊎ TakesMoves game n to deeds → ((k : ℕ) → TakesMoves game k to deeds → IsAsFar game k kept → R) → R
-next_from game n to deed deeds kept further still (inl t) go = go (n + 1) t.1 (further t.0)
-next_from game n to deed deeds kept further still (inr t) go = go n t still
+next_from : {K R : Type 0} (game : Judged) (who : ArbiterId) (n to : ℕ) (deed : HostEvent K) (deeds : List (HostEvent K)) (world : World) → (TakesMove game n deed → HasGot game who (n + 1) world) → HasGot game who n world
+    → (TakesMove game n deed × TakesMoves game (n + 1) to deeds) ⊎ TakesMoves game n to deeds → ((k : ℕ) → TakesMoves game k to deeds → HasGot game who k world → R) → R
+next_from game who n to deed deeds world further still (inl t) go = go (n + 1) t.1 (further t.0)
+next_from game who n to deed deeds world further still (inr t) go = go n t still
 
 module _ {K L : Type 0} (a : Keepers K) (b : Keepers L) (game : Judged) (short : length game.moves ≤ 4096) (end_a : GameStatus K) (end_b : GameStatus L) (to_a to_b : ℕ) where
   -- the net stands for a world in which both are so far
   record Arrives (net : SystemState) : Type 0 where
     world : World
     at : At game net world
-    far_a : IsAsFar game to_a world.a.kept
-    far_b : IsAsFar game to_b world.b.kept
+    far_a : HasGot game A to_a world
+    far_b : HasGot game B to_b world
 
   arrives : (steps : List (Step K L)) (life_a : GameStatus K) (life_b : GameStatus L) (old new : SystemState) (world : World) (n m : ℕ) → At game old world → IsSiteOfLife a.facts life_a old.a → IsSiteOfLife b.facts life_b old.b
       → DeedsGo a game A life_a (deeds_a steps) end_a → DeedsGo b game B life_b (deeds_b steps) end_b → Interleaving a.facts b.facts game old steps new
-      → TakesMoves game n to_a (deeds_a steps) → TakesMoves game m to_b (deeds_b steps) → IsAsFar game n world.a.kept → IsAsFar game m world.b.kept → Arrives new
+      → TakesMoves game n to_a (deeds_a steps) → TakesMoves game m to_b (deeds_b steps) → HasGot game A n world → HasGot game B m world → Arrives new
   arrives [] life_a life_b old new world n m at at_a at_b run_a run_b w take_a take_b far_a far_b = record {
     world = world;
     at = subst (λ (x : SystemState). At game x world) (sym w) at;
-    far_a = no_further game n to_a world.a.kept take_a far_a;
-    far_b = no_further game m to_b world.b.kept take_b far_b;
+    far_a = no_further game A n to_a world take_a far_a;
+    far_b = no_further game B m to_b world take_b far_b;
   }
   arrives (AtA deed ∷ steps) life_a life_b old new world n m at at_a at_b run_a run_b w take_a take_b far_a far_b =
       let d = deed_goes a game A old w.0 life_a end_a deed (deeds_a steps) at_a w.1 run_a in
@@ -327,8 +385,8 @@ module _ {K L : Type 0} (a : Keepers K) (b : Keepers L) (game : Judged) (short :
       let l = moves_on game old w.0 world moves.acts at moves.goes in
       let here_a = subst (λ (x : SystemState). IsSiteOfLife a.facts d.0 x.a) (sym moves.is) moves.at in
       let here_b = subst (λ (x : SystemState). IsSiteOfLife b.facts life_b x.b) (sym moves.is) at_b in
-      next_from game n to_a deed (deeds_a steps) l.world.a.kept
-      (λ t. deed_takes a game short A old w.0 world l.world at l.at.shows life_a end_a deed (deeds_a steps) n t at_a w.1 run_a far_a) (l.still A n far_a) take_a
+      next_from game A n to_a deed (deeds_a steps) l.world
+      (λ t. deed_takes a game short A old w.0 world l.world at l.at life_a end_a deed (deeds_a steps) n t at_a w.1 run_a far_a) (l.still A n far_a) take_a
       (λ k take far. arrives steps d.0 life_b w.0 new l.world k m l.at here_a here_b d.2 run_b w.2 take take_b far (l.still B m far_b))
   arrives (AtB deed ∷ steps) life_a life_b old new world n m at at_a at_b run_a run_b w take_a take_b far_a far_b =
       let d = deed_goes b game B old w.0 life_b end_b deed (deeds_b steps) at_b w.1 run_b in
@@ -336,14 +394,14 @@ module _ {K L : Type 0} (a : Keepers K) (b : Keepers L) (game : Judged) (short :
       let l = moves_on game old w.0 world moves.acts at moves.goes in
       let here_a = subst (λ (x : SystemState). IsSiteOfLife a.facts life_a x.a) (sym moves.is) at_a in
       let here_b = subst (λ (x : SystemState). IsSiteOfLife b.facts d.0 x.b) (sym moves.is) moves.at in
-      next_from game m to_b deed (deeds_b steps) l.world.b.kept
-      (λ t. deed_takes b game short B old w.0 world l.world at l.at.shows life_b end_b deed (deeds_b steps) m t at_b w.1 run_b far_b) (l.still B m far_b) take_b
+      next_from game B m to_b deed (deeds_b steps) l.world
+      (λ t. deed_takes b game short B old w.0 world l.world at l.at life_b end_b deed (deeds_b steps) m t at_b w.1 run_b far_b) (l.still B m far_b) take_b
       (λ k take far. arrives steps life_a d.0 w.0 new l.world n k l.at here_a here_b run_a d.2 w.2 take_a take (l.still A n far_a) far)
 
 -- ---- from the beginning
 
-nothing_yet : (game : Judged) → IsAsFar game 0 None
-nothing_yet game = record { low = omega arith; some = λ lt. absurd (omega (arith, lt)) }
+nothing_yet : (game : Judged) (who : ArbiterId) (world : World) → HasGot game who 0 world
+nothing_yet game who world = record { low = omega arith; some = λ lt. absurd (omega (arith, lt)); told = λ legal lt le. absurd (omega (arith, lt)) }
 
 at_first : (game : Judged) → At game (first_net game) (first_world game)
 at_first game = record { shows = record { a = record { kept = refl; runs = tt }; b = record { kept = refl; runs = tt }; log = refl }; holds = first_holds game }
@@ -360,22 +418,23 @@ module _ {K L : Type 0} (a : Keepers K) (b : Keepers L) (game : Judged) (some : 
   record BothAt (n m : ℕ) : Type 0 where
     world : World
     at : At game net world
-    far_a : IsAsFar game n world.a.kept
-    far_b : IsAsFar game m world.b.kept
+    far_a : HasGot game A n world
+    far_b : HasGot game B m world
 
   both_at : (n m : ℕ) → TakesMoves game 0 n (deeds_a steps) → TakesMoves game 0 m (deeds_b steps) → BothAt n m
   both_at n m take_a take_b =
       let x = all_go a game A (first_run (deeds_a steps)) (later_runs (deeds_a steps)) w.runs_a in
       let y = all_go b game B (first_run (deeds_b steps)) (later_runs (deeds_b steps)) w.runs_b in
-      let r = arrives a b game some.1 x.0 y.0 n m steps Fresh Fresh (first_net game) net (first_world game) 0 0 (at_first game) refl refl x.1 y.1 w.weaves take_a take_b (nothing_yet game) (nothing_yet game) in
+      let r = arrives a b game some.1 x.0 y.0 n m steps Fresh Fresh (first_net game) net (first_world game) 0 0 (at_first game) refl refl x.1 y.1 w.weaves take_a take_b (nothing_yet game A (first_world game)) (nothing_yet game B (first_world game)) in
       record { world = r.world; at = r.at; far_a = r.far_a; far_b = r.far_b }
 
+  within : last ≤ length game.moves
+  within = reach_within game.rules game.moves last (last_reached game.rules game.moves)
+
   -- a side that is as far as the game goes has the record of the game
-  whole : (found : Option (List ℕ)) (kept : Option Recorded) → KeptIs game.stamp game.rules.delay found kept → IfSome kept (IsRecordOf game.rules game.moves) → IsAsFar game (length game.moves) kept → IsWhole game found
-  whole found None is held far = let none = far.some some.0 in cc
-  whole found (Some kept) is held far =
-      let low : min (length game.moves) last ≤ move_count kept = far.low in
-      let within = reach_within game.rules game.moves last (last_reached game.rules game.moves) in
+  whole : (found : Option (List ℕ)) (kept : Option Recorded) → KeptIs game.stamp game.rules.delay found kept → IfSome kept (IsRecordOf game.rules game.moves) → min (length game.moves) last ≤ kept_count kept → IsSome kept → IsWhole game found
+  whole found None is held low here = cc
+  whole found (Some kept) is held low here =
       subst (λ (x : Recorded). IsWritten game.stamp game.rules.delay x found) (at_last game.rules game.moves kept held (omega (arith, low, within))) is
 
   gets_a : GetsOn game (deeds_a steps) net.a.kept
@@ -391,15 +450,25 @@ module _ {K L : Type 0} (a : Keepers K) (b : Keepers L) (game : Judged) (some : 
   all_a : TakesAll game (deeds_a steps) → IsWhole game net.a.kept
   all_a t =
       let r = both_at (length game.moves) 0 t (takes_none game (deeds_b steps)) in
-      whole net.a.kept r.world.a.kept r.at.shows.a.kept r.at.holds.a.kept r.far_a
+      whole net.a.kept r.world.a.kept r.at.shows.a.kept r.at.holds.a.kept r.far_a.low (r.far_a.some some.0)
 
   all_b : TakesAll game (deeds_b steps) → IsWhole game net.b.kept
   all_b t =
       let r = both_at 0 (length game.moves) (takes_none game (deeds_a steps)) t in
-      whole net.b.kept r.world.b.kept r.at.shows.b.kept r.at.holds.b.kept r.far_b
+      whole net.b.kept r.world.b.kept r.at.shows.b.kept r.at.holds.b.kept r.far_b.low (r.far_b.some some.0)
+
+  tells_a : AreLegal game → TakesAll game (deeds_a steps) → HasTold game A net.log
+  tells_a legal t =
+      let r = both_at (length game.moves) 0 t (takes_none game (deeds_b steps)) in
+      subst (HasTold game A) (sym r.at.shows.log) (r.far_a.told legal some.0 within)
+
+  tells_b : AreLegal game → TakesAll game (deeds_b steps) → HasTold game B net.log
+  tells_b legal t =
+      let r = both_at 0 (length game.moves) (takes_none game (deeds_a steps)) t in
+      subst (HasTold game B) (sym r.at.shows.log) (r.far_b.told legal some.0 within)
 
   get_on : BothGetOn game (deeds_a steps) (deeds_b steps) net
-  get_on = record { on_a = gets_a; on_b = gets_b; whole_a = all_a; whole_b = all_b; one = λ t u. one_found game.stamp game.rules.delay (record_at game.rules game.moves last) net.a.kept net.b.kept (all_a t) (all_b u) }
+  get_on = record { on_a = gets_a; on_b = gets_b; whole_a = all_a; whole_b = all_b; told_a = tells_a; told_b = tells_b; one = λ t u. one_found game.stamp game.rules.delay (record_at game.rules game.moves last) net.a.kept net.b.kept (all_a t) (all_b u) }
 
 pub hosts_get_on : {K L : Type 0} (a : Keepers K) (b : Keepers L) → HostsGetOn a b
 hosts_get_on a b game steps net some w = get_on a b game some steps net w

@@ -4,6 +4,7 @@ pub mod Weaving
 pub mod Stopping
 pub mod Joining
 pub mod Acking
+pub mod Replying
 pub mod GettingOn
 pub mod Serving
 pub mod ServedWeaving

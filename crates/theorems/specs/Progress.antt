@@ -4,11 +4,16 @@
 -- move of the game and of no other act: over a net that delivers in the end, a move that is sent often enough comes to be answered so. All
 -- else that a host does may come between: it may close the game and open it again, stop and start, fail at other puts, and answer repeats, later
 -- moves that wait, and other games.
-use Rattle.std.specs.Prelude.{◌≡◌, ◌≢◌, ◌⊎◌, ◌≤◌, ◌<◌, ◌+◌, ℕ, List, [], ◌∷◌, length, min, Option, Ok, Err}
+use Rattle.std.specs.Prelude.{◌≡◌, ◌≢◌, ◌⊎◌, ◌≤◌, ◌<◌, ◌+◌, ℕ, List, [], ◌∷◌, length, min, slice_get, Option, Some, Ok, Err, IsSome}
 use Rattle.board_core.specs.declared.moves.Move.{Move as Moves}
+use Rattle.board_core.specs.declared.verdict.Verdict.{Verdict as Verdicts}
+use Rattle.judge_core.specs.Games.{IsFirst, position_after_all}
 use Rattle.move_msg.specs.Numbers.{most_moves}
+use Rattle.move_msg.specs.declared.arbiter_id.ArbiterId.{ArbiterId}
+use Rattle.move_msg.specs.declared.arbiter_id.ArbiterId.TheVariants.{A, B}
 use Rattle.move_msg.specs.declared.arbiter_id.Sender.{Sender}
-use Rattle.move_msg.specs.declared.message.Message.TheVariants.{Move}
+use Rattle.move_msg.specs.declared.message.Message.{Message}
+use Rattle.move_msg.specs.declared.message.Message.TheVariants.{Ack, Move, Verdict}
 use Rattle.arbiter_core.specs.declared.fault.DeliverFault.TheVariants.{KeeperFailed, OutOfMemory}
 use Rattle.arbiter_core.specs.Delivers.{Exchange, IsWritten, heard}
 use Rattle.arbiter_core.specs.Recording.{last_ply, record_at}
@@ -44,6 +49,25 @@ TakesMoves game from to (deed ∷ deeds) = (TakesMove game from deed × TakesMov
 abbrev pub TakesAll : {K : Type 0} → Judged → List (HostEvent K) → Type 0
 TakesAll game deeds = TakesMoves game 0 (length game.moves) deeds
 
+-- ---- what it tells
+
+-- the moves of the game are legal in turn
+abbrev pub AreLegal : Judged → Type 0
+AreLegal game = IsSome (position_after_all game.rules.start game.moves)
+
+-- no ply of the game has a verdict
+abbrev pub HasNoVerdict : Judged → Type 0
+HasNoVerdict game = (ply : ℕ) (v : Verdicts) → IsFirst game.rules game.moves ply v → ⊥
+
+abbrev pub IsAmong : List Message → Message → Type 0
+IsAmong log m = (i : ℕ) × (slice_get log i ≡ Some m)
+
+-- This arbiter has sent a report of the whole game: the first verdict; or, of a game that has none, an acknowledgement of all moves.
+abbrev pub HasTold : Judged → ArbiterId → List Message → Type 0
+HasTold game who log =
+    ((ply : ℕ) × ((v : Verdicts) × IsFirst game.rules game.moves ply v × IsAmong log (Verdict game.stamp who ply v)))
+    ⊎ (HasNoVerdict game × IsAmong log (Ack game.stamp who (length game.moves)))
+
 -- ---- how far it gets
 
 -- However many first moves were taken, a record of as many is found, or of as many as the game reaches.
@@ -60,6 +84,9 @@ pub record BothGetOn {K L : Type 0} (game : Judged) (deeds_a : List (HostEvent K
   pub on_b : GetsOn game deeds_b net.b.kept
   pub whole_a : TakesAll game deeds_a → IsWhole game net.a.kept
   pub whole_b : TakesAll game deeds_b → IsWhole game net.b.kept
+  -- and each has told of it, where no move of the game is illegal
+  pub told_a : AreLegal game → TakesAll game deeds_a → HasTold game A net.log
+  pub told_b : AreLegal game → TakesAll game deeds_b → HasTold game B net.log
   -- and it is one record
   pub one : TakesAll game deeds_a → TakesAll game deeds_b → net.a.kept ≡ net.b.kept
 
@@ -67,8 +94,8 @@ pub record BothGetOn {K L : Type 0} (game : Judged) (deeds_a : List (HostEvent K
 abbrev pub HasSomeMoves : Judged → Type 0
 HasSomeMoves game = (0 < length game.moves) × (length game.moves ≤ most_moves)
 
--- THE LAW: Wherever two hosts come, each has found as much of the game as it took in order, and all of it where it took all; so two that took all
--- have found one record.
+-- THE LAW: Wherever two hosts come, each has found as much of the game as it took in order, and all of it where it took all, and has told so; and two
+-- that took all have found one record.
 abbrev pub HostsGetOn : {K L : Type 0} → Keepers K → Keepers L → Type 0
 HostsGetOn {K = K} {L = L} a b =
     (game : Judged) (steps : List (Step K L)) (net : SystemState) → HasSomeMoves game → AreWoven a b game steps net

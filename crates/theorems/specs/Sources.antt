@@ -3,7 +3,6 @@ use Rattle.std.specs.Prelude.{◌≡◌, ◌<◌, ◌⊎◌, ◌++◌, ℕ, List
 use Rattle.std.specs.List.{Contains}
 use Rattle.std.specs.declared.net.socket_addr.SocketAddr.{SocketAddr}
 use Rattle.board_core.specs.declared.moves.Move.{Move as Moves}
-use Rattle.board_core.specs.declared.verdict.Verdict.{Verdict}
 use Rattle.move_msg.specs.declared.message.Message.{Message}
 use Rattle.move_msg.specs.declared.arbiter_id.ArbiterId.{ArbiterId}
 use Rattle.move_msg.specs.Messages.{SpellsMessage}
@@ -27,6 +26,7 @@ use Rattle.system_io.specs.Ports.{Missed, Passing}
 use Rattle.system_io.specs.declared.reading.ReadFault.{ReadFault}
 use Rattle.timeline.specs.Events.{Sent}
 use Rattle.timeline.specs.Events as timeline
+use Rattle.theorems.specs.Progress.{HasNoVerdict}
 
 -- Of a game whose moves a source sends, each datagram that it sends spells a message of the log with which the worlds of two arbiters begin:
 -- what the headline asks of a source.
@@ -76,10 +76,6 @@ pub record IsRunOfSource (cause : ReadFault → Type 0) (game : Judged) (r : Sou
   pub ends : HasEnded cause r.terms r.at r.sent r.more r.end r.known
   pub stamp : r.terms.terms.stamp ≡ game.stamp
   pub moves : game.moves ≡ r.at.moves ++ r.sent
-
--- no ply of the game has a verdict
-abbrev pub HasNoVerdict : Judged → Type 0
-HasNoVerdict game = (ply : ℕ) (v : Verdict) → IsFirst game.rules game.moves ply v → ⊥
 
 -- A report of the whole game came of this arbiter: a verdict; or, of a game that has none, as many acknowledged moves as the game has.
 abbrev pub HasReportedAll : Judged → List Passing → ArbiterId → Type 0
