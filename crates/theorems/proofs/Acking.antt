@@ -19,7 +19,7 @@ use Rattle.theorems.specs.Interleavings.{AcksAreFound, HasMoves}
 use Rattle.theorems.proofs.Joining.{hosts_are_worlds}
 
 -- so many moves are found, of a record that is kept
-has_moves : (game : Judged) (n : ℕ) (found : Option (List ℕ)) (kept : Option Recorded) → KeptIs game.stamp game.rules.delay found kept → IfSome kept (IsFrontOf game.rules game.moves) → n ≤ kept_count kept → HasMoves game n found
+pub has_moves : (game : Judged) (n : ℕ) (found : Option (List ℕ)) (kept : Option Recorded) → KeptIs game.stamp game.rules.delay found kept → IfSome kept (IsFrontOf game.rules game.moves) → n ≤ kept_count kept → HasMoves game n found
 has_moves game n None None is front few = omega (arith, few)
 has_moves game n None (Some kept) is front few = absurd is
 has_moves game n (Some bytes) None is front few = absurd (cc)

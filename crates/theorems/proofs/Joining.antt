@@ -52,27 +52,27 @@ module _ {K : Type 0} (s : Keepers K) (stamp : List ℕ) where
 
 module _ {K : Type 0} (s : Keepers K) (game : Judged) (who : ArbiterId) where
   -- by a run's acts the game goes from one life to another
-  record RunGoes (old : GameStatus K) (run : List (Action K)) (new : GameStatus K) : Type 0 where
-    common : CommonView
-    of : IsHostOf game who common
-    goes : Goes s common game.stamp old (acts_of game.stamp run) new
+  pub record RunGoes (old : GameStatus K) (run : List (Action K)) (new : GameStatus K) : Type 0 where
+    pub common : CommonView
+    pub of : IsHostOf game who common
+    pub goes : Goes s common game.stamp old (acts_of game.stamp run) new
 
   -- each later run begins with no game open
-  abbrev RunsGo : GameStatus K → List (Action K) → List (List (Action K)) → GameStatus K → Type 0
+  abbrev pub RunsGo : GameStatus K → List (Action K) → List (List (Action K)) → GameStatus K → Type 0
   RunsGo old run [] new = RunGoes old run new
   RunsGo old run (next ∷ later) new = ((end : GameStatus K) × RunGoes old run end) × RunsGo Fresh next later new
 
-  abbrev DeedsGo : GameStatus K → List (HostEvent K) → GameStatus K → Type 0
+  abbrev pub DeedsGo : GameStatus K → List (HostEvent K) → GameStatus K → Type 0
   DeedsGo old deeds new = RunsGo old (first_run deeds) (later_runs deeds) new
 
   a_run : (run : List (Action K)) → IsRunOfHost s game who run → (end : GameStatus K) × RunGoes Fresh run end
   a_run run r = (r.life, record { common = r.common; of = r.of; goes = r.goes })
 
   -- all of them lead to where the last one leads
-  abbrev AllGo : List (Action K) → List (List (Action K)) → Type 0
+  abbrev pub AllGo : List (Action K) → List (List (Action K)) → Type 0
   AllGo run later = (end : GameStatus K) × RunsGo Fresh run later end × RunGoes Fresh (last_among run later) end
 
-  all_go : (run : List (Action K)) (later : List (List (Action K))) → AllByRecursion (IsRunOfHost s game who) (run ∷ later) → AllGo run later
+  pub all_go : (run : List (Action K)) (later : List (List (Action K))) → AllByRecursion (IsRunOfHost s game who) (run ∷ later) → AllGo run later
   all_go run [] r = let x = a_run run r.0 in (x.0, x.1, x.1)
   all_go run (next ∷ later) r =
       let rest = all_go next later r.1 in
@@ -95,7 +95,7 @@ module _ {K : Type 0} (s : Keepers K) (game : Judged) (who : ArbiterId) where
         let x = first_act life r.0.0 a run here g r.0.1 in
         (x.0, x.1, ((r.0.0, x.2), r.1))
 
-    deed_goes : (life end : GameStatus K) (deed : HostEvent K) (deeds : List (HostEvent K)) → IsSiteOfLife s.facts life (site_of old who) → GivesFor s.facts game old who deed new → DeedsGo life (deed ∷ deeds) end
+    pub deed_goes : (life end : GameStatus K) (deed : HostEvent K) (deeds : List (HostEvent K)) → IsSiteOfLife s.facts life (site_of old who) → GivesFor s.facts game old who deed new → DeedsGo life (deed ∷ deeds) end
         → (mid : GameStatus K) × GoesTo mid × DeedsGo mid deeds end
     deed_goes life end (Does a) deeds here g r = does life end a (first_run deeds) (later_runs deeds) here g r
     deed_goes life end Asks deeds here g r = (
@@ -105,7 +105,7 @@ module _ {K : Type 0} (s : Keepers K) (game : Judged) (who : ArbiterId) where
     )
     deed_goes life end Ends deeds here g r = (Fresh, stop_goes s.facts game who old new life here g, r.1)
 
-  none_left : (life end : GameStatus K) → RunGoes life [] end → end ≡ life
+  pub none_left : (life end : GameStatus K) → RunGoes life [] end → end ≡ life
   none_left life end r = r.goes
 
 -- ---- both hosts

@@ -4,6 +4,11 @@ pub mod Weaving
 pub mod Stopping
 pub mod Joining
 pub mod Acking
+pub mod Replying
+pub mod GettingOn
 pub mod Serving
 pub mod ServedWeaving
 pub mod ServedStoring
+pub mod Reporting
+pub mod Believing
+pub mod Ending

@@ -32,7 +32,7 @@ use Rattle.theorems.specs.Nets.{NetStep, AnswersOne, Answering, AsksOne, Asking,
 use Rattle.relay_world.proofs.Hearing.{written_too}
 use Rattle.relay_world.proofs.Reopening.{one_whole}
 use Rattle.relay_world.proofs.Pairing.{whole_of}
-use Rattle.relay_world.proofs.Steps.{right_of, side_at}
+use Rattle.relay_world.proofs.Steps.{Holds, first_holds, right_of, run_goes, side_at}
 use Rattle.relay_world.proofs.Schedules.{after_append, holds_after}
 use Rattle.relay_world.proofs.Faithful.{faithful_of}
 
@@ -57,8 +57,9 @@ pub record ShowsNet (game : Judged) (net : SystemState) (world : World) : Type 0
   pub b : Shows game B net.b.kept net.b.arbiter world.b
   pub log : net.log ≡ world.log
 
-abbrev pub Stands : Judged → SystemState → Type 0
-Stands game net = (events : List Event) × ShowsNet game net (world_after_all game (first_world game) events)
+-- events lead from this world to one for which the net stands
+abbrev pub Stands : Judged → World → SystemState → Type 0
+Stands game from net = (events : List Event) × ShowsNet game net (world_after_all game from events)
 
 -- ---- an answer
 
@@ -244,11 +245,11 @@ still_shows game net world A site outputs h s e = record { a = s; b = h.b; log =
 still_shows game net world B site outputs h s e = record { a = h.a; b = s; log = ap (λ (xs : List Message). net.log ++ xs) e ∙ append-nil net.log ∙ h.log }
 
 -- a net that a further event leads to
-by_event : (game : Judged) (net : SystemState) (events : List Event) (event : Event) (world : World) → happens game (world_after_all game (first_world game) events) event ≡ world → ShowsNet game net world → Stands game net
-by_event game net events event world is h =
-    (events ++ event ∷ [], subst (ShowsNet game net) (sym is ∙ sym (after_append game (first_world game) events (event ∷ []))) h)
+by_event : (game : Judged) (from : World) (net : SystemState) (events : List Event) (event : Event) (world : World) → happens game (world_after_all game from events) event ≡ world → ShowsNet game net world → Stands game from net
+by_event game from net events event world is h =
+    (events ++ event ∷ [], subst (ShowsNet game net) (sym is ∙ sym (after_append game from events (event ∷ []))) h)
 
-deliver_is : (game : Judged) (world : World) (who : ArbiterId) (i : ℕ) (keep : Keep) (m : Message) → slice_get world.log i ≡ Some m → happens game world (Deliver who i keep) ≡ with_side world who (hears keep (side_in world who) (λ old window. answer_to game.rules (identity game who) old window m))
+pub deliver_is : (game : Judged) (world : World) (who : ArbiterId) (i : ℕ) (keep : Keep) (m : Message) → slice_get world.log i ≡ Some m → happens game world (Deliver who i keep) ≡ with_side world who (hears keep (side_in world who) (λ old window. answer_to game.rules (identity game who) old window m))
 unfolding happens
 deliver_is game world who i keep m e = ap (delivered game world who keep) e
 
@@ -260,7 +261,7 @@ ask_is : (game : Judged) (world : World) (who : ArbiterId) → happens game worl
 unfolding happens
 ask_is game world who = refl
 
-running_hears : (keep : Keep) (kept : Option Recorded) (life : SideLife) (old : Recorded) (window : ReorderBuffer) (respond : Recorded → ReorderBuffer → Answer) → kept ≡ Some old → life ≡ Running window → hears_at keep kept life respond ≡ answered keep old window (respond old window)
+pub running_hears : (keep : Keep) (kept : Option Recorded) (life : SideLife) (old : Recorded) (window : ReorderBuffer) (respond : Recorded → ReorderBuffer → Answer) → kept ≡ Some old → life ≡ Running window → hears_at keep kept life respond ≡ answered keep old window (respond old window)
 running_hears keep kept life old window respond e f = rw (e, f) refl
 
 same_side : (side : Side) (old : Recorded) (window : ReorderBuffer) → side.life ≡ Running window → side.kept ≡ Some old → side ≡ record { kept = Some old; life = Running window }
@@ -281,33 +282,37 @@ front_of : (game : Judged) (world : World) (who : ArbiterId) → IsFaithful game
 front_of game world A f = f.a
 front_of game world B f = f.b
 
-module _ {K : Type 0} (facts : KeeperFacts K) (game : Judged) where
-  opening_goes : (old new : SystemState) (who : ArbiterId) (before now : K) (told : Opened) → Stands game old → OpeningInNet facts game old who before now told new → Stands game new
+-- from any world in which all holds
+module _ {K : Type 0} (facts : KeeperFacts K) (game : Judged) (from : World) (held : Holds game from) where
+  holds_then : (events : List Event) → Holds game (world_after_all game from events)
+  holds_then events = (run_goes game from events held).holds
+
+  opening_goes : (old new : SystemState) (who : ArbiterId) (before now : K) (told : Opened) → Stands game from old → OpeningInNet facts game old who before now told new → Stands game from new
   opening_goes old new who before now told s o =
       let events : List Event = s.0 in
-      let world : World = world_after_all game (first_world game) events in
+      let world : World = world_after_all game from events in
       let shows = shows_at game old world who s.1 in
-      let whole = whole_of game.rules game.moves (side_in world who).kept (side_at game world who (holds_after game events)).kept in
-      subst (Stands game) (sym o.net) (by_cases events world refl s.1 (reopens facts game who o.is.setup o.is.is_setup (site_of old who).kept o.site.kept before now told (side_in world who).life (side_in world who).kept o.is.kept shows.kept whole o.is.opens o.is.found))
+      let whole = whole_of game.rules game.moves (side_in world who).kept (side_at game world who (holds_then events)).kept in
+      subst (Stands game from) (sym o.net) (by_cases events world refl s.1 (reopens facts game who o.is.setup o.is.is_setup (site_of old who).kept o.site.kept before now told (side_in world who).life (side_in world who).kept o.is.kept shows.kept whole o.is.opens o.is.found))
     where
-      by_cases : (events : List Event) (world : World) → world ≡ world_after_all game (first_world game) events → ShowsNet game old world → Reopens game who o.site.kept told (side_in world who) → Stands game (changed old who o.site [])
+      by_cases : (events : List Event) (world : World) → world ≡ world_after_all game from events → ShowsNet game old world → Reopens game who o.site.kept told (side_in world who) → Stands game from (changed old who o.site [])
       by_cases events world e h (inl r) =
           (events, subst (ShowsNet game (changed old who o.site [])) e (still_shows game old world who o.site [] h (subst (λ (x : Option View). Shows game who o.site.kept x (side_in world who)) (sym o.is.arbiter) r) refl))
       by_cases events world e h (inr r) =
           let late : Side × List Message = (restarted game.rules r.0 (side_in world who).kept, []) in
-          by_event game (changed old who o.site []) events (Restart who r.0) (with_side world who late)
+          by_event game from (changed old who o.site []) events (Restart who r.0) (with_side world who late)
           (subst (λ (w : World). happens game w (Restart who r.0) ≡ with_side world who late) e (restart_is game world who r.0))
           (turned_shows game old world who o.site [] late h (subst (λ (x : Option View). Shows game who o.site.kept x (restarted game.rules r.0 (side_in world who).kept)) (sym o.is.arbiter) r.1) refl)
 
-  answering_goes : (old new : SystemState) (who : ArbiterId) (v : View) (before : K) (e : Exchange K) → Stands game old → Answering facts game old who v before e new → Stands game new
+  answering_goes : (old new : SystemState) (who : ArbiterId) (v : View) (before : K) (e : Exchange K) → Stands game from old → Answering facts game old who v before e new → Stands game from new
   answering_goes old new who v before e s o =
       let events : List Event = s.0 in
-      let world : World = world_after_all game (first_world game) events in
+      let world : World = world_after_all game from events in
       let shows = shows_at game old world who s.1 in
       let runs : RunsAt game who v (side_in world who) = subst (λ (x : Option View). RunsSo game who x (side_in world who)) o.is.stands shows.runs in
-      subst (Stands game) (sym o.net) (by_heard events world refl s.1 shows.kept runs (heard game.stamp e.datagram) refl)
+      subst (Stands game from) (sym o.net) (by_heard events world refl s.1 shows.kept runs (heard game.stamp e.datagram) refl)
     where
-      by_heard : (events : List Event) (world : World) → world ≡ world_after_all game (first_world game) events → ShowsNet game old world → KeptIs game.stamp game.rules.delay (site_of old who).kept (side_in world who).kept → RunsAt game who v (side_in world who) → (said : Result Message DeliverFault) → heard game.stamp e.datagram ≡ said → Stands game (changed old who o.site (sent_with e.told))
+      by_heard : (events : List Event) (world : World) → world ≡ world_after_all game from events → ShowsNet game old world → KeptIs game.stamp game.rules.delay (site_of old who).kept (side_in world who).kept → RunsAt game who v (side_in world who) → (said : Result Message DeliverFault) → heard game.stamp e.datagram ≡ said → Stands game from (changed old who o.site (sent_with e.told))
       by_heard events world at h kept runs said is = by_said said is answer (answer_comes facts game who v runs.rules runs.me o.is.runs e.after.arbiter before e.after.keeper e.told o.site.kept (answer_heard game.rules (identity game who) v.kept v.window said) written (subst (RefusesOrSends v before e.after.keeper e.after.arbiter e.told) answer o.is.delivers.answered) (subst (PutsIfAny facts v before e.after.keeper e.after.arbiter e.told) answer o.is.delivers.put) (found o.is.found))
         where
           life : (side_in world who).life ≡ Running v.window
@@ -333,7 +338,7 @@ module _ {K : Type 0} (facts : KeeperFacts K) (game : Judged) where
           found (inl f) = inl f
           found (inr f) = inr (f.0, subst (λ (a : Answer). IsToBePut v a o.site.kept) answer f.1)
 
-          unchanged : Shows game who o.site.kept (Some e.after.arbiter) (record { kept = Some v.kept; life = Running v.window }) → sent_with e.told ≡ [] → Stands game (changed old who o.site (sent_with e.told))
+          unchanged : Shows game who o.site.kept (Some e.after.arbiter) (record { kept = Some v.kept; life = Running v.window }) → sent_with e.told ≡ [] → Stands game from (changed old who o.site (sent_with e.told))
           unchanged shows none = (
             events,
             subst (ShowsNet game (changed old who o.site (sent_with e.told))) at
@@ -341,11 +346,11 @@ module _ {K : Type 0} (facts : KeeperFacts K) (game : Judged) where
                 (subst (λ (x : Option View). Shows game who o.site.kept x (side_in world who)) (sym o.is.arbiter) (subst (Shows game who o.site.kept (Some e.after.arbiter)) (sym side) shows)) none),
           )
 
-          quiet : Comes game who o.site.kept e.after.arbiter (sent_with e.told) v.kept v.window (Sends [] v.window) → Stands game (changed old who o.site (sent_with e.told))
+          quiet : Comes game who o.site.kept e.after.arbiter (sent_with e.told) v.kept v.window (Sends [] v.window) → Stands game from (changed old who o.site (sent_with e.told))
           quiet (inl c) = unchanged c.0 c.1
           quiet (inr c) = unchanged c.1 c.2
 
-          by_message : (m : Message) → heard game.stamp e.datagram ≡ Ok m → Comes game who o.site.kept e.after.arbiter (sent_with e.told) v.kept v.window (answer_to game.rules (identity game who) v.kept v.window m) → IsHeeded m ⊎ (answer_to game.rules (identity game who) v.kept v.window m ≡ Sends [] v.window) → Stands game (changed old who o.site (sent_with e.told))
+          by_message : (m : Message) → heard game.stamp e.datagram ≡ Ok m → Comes game who o.site.kept e.after.arbiter (sent_with e.told) v.kept v.window (answer_to game.rules (identity game who) v.kept v.window m) → IsHeeded m ⊎ (answer_to game.rules (identity game who) v.kept v.window m ≡ Sends [] v.window) → Stands game from (changed old who o.site (sent_with e.told))
           by_message m is c (inr none) = quiet (subst (Comes game who o.site.kept e.after.arbiter (sent_with e.told) v.kept v.window) none c)
           by_message m is (inl c) (inl holds) = unchanged c.0 c.1
           by_message m is (inr c) (inl holds) =
@@ -355,55 +360,57 @@ module _ {K : Type 0} (facts : KeeperFacts K) (game : Judged) where
               let step : happens game world (Deliver who sent.0 c.0) ≡ with_side world who late =
               deliver_is game world who sent.0 c.0 m there
               ∙ ap (with_side world who) (running_hears c.0 (side_in world who).kept (side_in world who).life v.kept v.window (λ old window. answer_to game.rules (identity game who) old window m) is_kept life) in
-              by_event game (changed old who o.site (sent_with e.told)) events (Deliver who sent.0 c.0) (with_side world who late)
+              by_event game from (changed old who o.site (sent_with e.told)) events (Deliver who sent.0 c.0) (with_side world who late)
               (subst (λ (w : World). happens game w (Deliver who sent.0 c.0) ≡ with_side world who late) at step)
               (turned_shows game old world who o.site (sent_with e.told) late h (subst (λ (x : Option View). Shows game who o.site.kept x late.0) (sym o.is.arbiter) c.1) c.2)
 
-          by_said : (said : Result Message DeliverFault) → heard game.stamp e.datagram ≡ said → answer_at v e.datagram ≡ answer_heard game.rules (identity game who) v.kept v.window said → Comes game who o.site.kept e.after.arbiter (sent_with e.told) v.kept v.window (answer_heard game.rules (identity game who) v.kept v.window said) → Stands game (changed old who o.site (sent_with e.told))
+          by_said : (said : Result Message DeliverFault) → heard game.stamp e.datagram ≡ said → answer_at v e.datagram ≡ answer_heard game.rules (identity game who) v.kept v.window said → Comes game who o.site.kept e.after.arbiter (sent_with e.told) v.kept v.window (answer_heard game.rules (identity game who) v.kept v.window said) → Stands game from (changed old who o.site (sent_with e.told))
           by_said (Err fault) is same (inl c) = unchanged c.0 c.1
           by_said (Err fault) is same (inr c) = unchanged c.1 c.2
           by_said (Ok m) is same c = by_message m is c (heeded game.rules (identity game who) v.kept v.window m)
 
-  asking_goes : (old new : SystemState) (who : ArbiterId) (v : View) → Stands game old → Asking old who v new → Stands game new
+  asking_goes : (old new : SystemState) (who : ArbiterId) (v : View) → Stands game from old → Asking old who v new → Stands game from new
   asking_goes old new who v s o =
       let events : List Event = s.0 in
-      let world : World = world_after_all game (first_world game) events in
+      let world : World = world_after_all game from events in
       let shows = shows_at game old world who s.1 in
       let runs : RunsAt game who v (side_in world who) = subst (λ (x : Option View). RunsSo game who x (side_in world who)) o.stands shows.runs in
       let late : Side × List Message = (side_in world who, wants (identity game who) (side_in world who).kept (side_in world who).life) in
       let said : listed (request_of v.me v.kept) ≡ wants (identity game who) (side_in world who).kept (side_in world who).life =
       ap (λ (x : Identity). listed (request_of x v.kept)) runs.me ∙ sym (asks (side_in world who).kept (side_in world who).life (runs.is o.runs).1 (runs.is o.runs).0) in
-      subst (Stands game) (sym o.net)
-      (by_event game (changed old who (site_of old who) (listed (request_of v.me v.kept))) events (Ask who) (with_side world who late) (ask_is game world who)
+      subst (Stands game from) (sym o.net)
+      (by_event game from (changed old who (site_of old who) (listed (request_of v.me v.kept))) events (Ask who) (with_side world who late) (ask_is game world who)
       (turned_shows game old world who (site_of old who) (listed (request_of v.me v.kept)) late s.1 shows said))
     where
       asks : (kept : Option Recorded) (life : SideLife) → kept ≡ Some v.kept → life ≡ Running v.window → wants (identity game who) kept life ≡ listed (request_of (identity game who) v.kept)
       asks kept life e f = rw (e, f) refl
 
-  closing_goes : (old new : SystemState) (who : ArbiterId) → Stands game old → new ≡ changed old who (record { kept = (site_of old who).kept; arbiter = None }) [] → Stands game new
+  closing_goes : (old new : SystemState) (who : ArbiterId) → Stands game from old → new ≡ changed old who (record { kept = (site_of old who).kept; arbiter = None }) [] → Stands game from new
   closing_goes old new who s e =
-      let world : World = world_after_all game (first_world game) s.0 in
+      let world : World = world_after_all game from s.0 in
       let shows = shows_at game old world who s.1 in
-      subst (Stands game) (sym e) (s.0, still_shows game old world who (record { kept = (site_of old who).kept; arbiter = None }) [] s.1 (record { kept = shows.kept; runs = tt }) refl)
+      subst (Stands game from) (sym e) (s.0, still_shows game old world who (record { kept = (site_of old who).kept; arbiter = None }) [] s.1 (record { kept = shows.kept; runs = tt }) refl)
 
-  goes_on : (old new : SystemState) (act : NetStep K) → Stands game old → GoesByStep facts game old act new → Stands game new
+  goes_on : (old new : SystemState) (act : NetStep K) → Stands game from old → GoesByStep facts game old act new → Stands game from new
   goes_on old new (OpensOne who before now told) s o = opening_goes old new who before now told s o
   goes_on old new (AnswersOne who v before e) s o = answering_goes old new who v before e s o
   goes_on old new (AsksOne who v) s o = asking_goes old new who v s o
   goes_on old new (ClosesOne who) s o = closing_goes old new who s o
 
-  goes : (old new : SystemState) (acts : List (NetStep K)) → Stands game old → GoesBySteps facts game old acts new → Stands game new
-  goes old new [] s e = subst (Stands game) (sym e) s
+  pub goes : (old new : SystemState) (acts : List (NetStep K)) → Stands game from old → GoesBySteps facts game old acts new → Stands game from new
+  goes old new [] s e = subst (Stands game from) (sym e) s
   goes old new (act ∷ acts) s g = goes g.0 new acts (goes_on old g.0 act s g.1) g.2
 
-  first_stands : Stands game (first_net game)
+-- from the first world
+module _ {K : Type 0} (facts : KeeperFacts K) (game : Judged) where
+  first_stands : Stands game (first_world game) (first_net game)
   first_stands = ([], record { a = record { kept = refl; runs = tt }; b = record { kept = refl; runs = tt }; log = refl })
 
-  pub stands_there : (acts : List (NetStep K)) (net : SystemState) → GoesBySteps facts game (first_net game) acts net → Stands game net
-  stands_there acts net g = goes (first_net game) net acts first_stands g
+  pub stands_there : (acts : List (NetStep K)) (net : SystemState) → GoesBySteps facts game (first_net game) acts net → Stands game (first_world game) net
+  stands_there acts net g = goes facts game (first_world game) (first_holds game) (first_net game) net acts first_stands g
 
   -- an arbiter that runs has the record of its side of the world
-  pub runs_true : (net : SystemState) → Stands game net → (who : ArbiterId) (v : View) → (site_of net who).arbiter ≡ Some v → v.is_down ≡ false → IsFrontOf game.rules game.moves v.kept
+  pub runs_true : (net : SystemState) → Stands game (first_world game) net → (who : ArbiterId) (v : View) → (site_of net who).arbiter ≡ Some v → v.is_down ≡ false → IsFrontOf game.rules game.moves v.kept
   runs_true net s who v e up =
       let world : World = world_after_all game (first_world game) s.0 in
       let shows = shows_at game net world who s.1 in

@@ -1,5 +1,6 @@
 pub mod Nets
 pub mod Interleavings
+pub mod Progress
 pub mod Sources
 pub mod Seals
 pub mod Served

@@ -1,6 +1,7 @@
 //! A game at two servers: what both do of it is what two hosts do.
 
 ghost use Rattle.theorems.specs.Interleavings.{AcksAreFound, HostsAreWorlds, HostsTellTheTruth};
+ghost use Rattle.theorems.specs.Progress.{HostsGetOn};
 ghost use Rattle.theorems.specs.Served.{OfTwoPlaces};
 
 use game_folder::Games;
@@ -24,4 +25,14 @@ pub fn acks_are_found<S: System, R: System, G: Games<S>, H: Games<R>>(_system: &
 /// first moves, with the first verdict exactly at its ply.
 pub fn hosts_tell_the_truth<S: System, R: System, G: Games<S>, H: Games<R>>(_system: &S, _other: &R)
     ensures { OfTwoPlaces (G.facts _system.now) (H.facts _other.now) (λ a b. HostsTellTheTruth a b) }
+{}
+
+/// Two such hosts get on with the game. As many of its first moves as a host took in order are found there, or as many as the game reaches; where it
+/// took all of them, the record of the whole game, up to its first verdict, its first illegal move or its end; and two that took all keep one record.
+/// Each has then sent a report of the whole game, if its moves are legal: what a source waits for (`sources_get_on`).
+///
+/// A move is taken where its datagram came and was answered, and neither memory was refused for this nor did a put fail: so it is, over a net that
+/// delivers in the end, of one that is sent often enough. Anything may have come between (`specs/Progress.antt`).
+pub fn hosts_get_on<S: System, R: System, G: Games<S>, H: Games<R>>(_system: &S, _other: &R)
+    ensures { OfTwoPlaces (G.facts _system.now) (H.facts _other.now) (λ a b. HostsGetOn a b) }
 {}

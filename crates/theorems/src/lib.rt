@@ -13,10 +13,10 @@
 //! (`goes` of `IsRunOfHost`) is proved of each run of a server, wherever it stopped (`served_are_hosted`).
 //!
 //! Inside: `arbiters`, `hosts`, `served`, `served_stores`, `sources`, `seals`. In `proofs/`: `Netting` (arbiters), `Seeing` (keepers of any type,
-//! seen as what they keep), `Weaving` (an act of a host as steps of an arbiter), `Stopping`, `Joining`, `Acking`, `Serving` and
-//! `ServedWeaving` (servers of games over one timeline), `ServedStoring` (those over stores).
+//! seen as what they keep), `Weaving` (an act of a host as steps of an arbiter), `Stopping`, `Joining`, `Acking`, `Replying`, `GettingOn`, `Serving` and
+//! `ServedWeaving` (servers of games over one timeline), `ServedStoring` (those over stores); `Reporting`, `Believing` and `Ending` (a source).
 //!
-//! Definitions, in reading order: `Nets`, `Interleavings`, `Served`, `ServedWeaves`, `ServedStores`, `Sources`, `Seals`. A law has no
+//! Definitions, in reading order: `Nets`, `Interleavings`, `Progress`, `Served`, `ServedWeaves`, `ServedStores`, `Sources`, `Seals`. A law has no
 //! case of its own; `tools/host_games` and `tools/weather` play games between two hosts.
 //!
 //! - CLAIM: `arbiters_are_worlds`: two arbiters of one game over keepers of any one type, by steps as the contracts of `open` and
@@ -25,6 +25,10 @@
 //!   their acts in any order and those of other games among them, come to a world. While the game is open, its arbiter runs and its keeper keeps
 //!   what is found there.
 //! - CLAIM: `acks_are_found`: as many moves as a host ever acknowledged are found there, then and later: the game's first ones.
+//! - CLAIM: `hosts_get_on`: as many first moves of the game as such a host took in order are found there, or as many as the game reaches; where it
+//!   took all, the record of the whole game is, up to its first verdict, its first illegal move or its end, and of legal moves a report of it was
+//!   sent; two that took all have one record. A move is taken where its datagram was answered, and neither memory was refused for this nor did a
+//!   put fail; anything may come between.
 //! - CLAIM: `arbiters_tell_the_truth`; `hosts_tell_the_truth`: what such arbiters, and such hosts, tell of the game while it is open is
 //!   true: the record is the game's first moves, with the first verdict exactly at its ply.
 //! - CLAIM: `served_are_hosted`: what a run of a server of games (`game_server`) does of a game is what a run of a host does, where each opening is
@@ -42,6 +46,8 @@
 //! - CLAIM: `sources_tell_the_truth`: what a source goes by is true, where all that came of the game was sent in a world of it: a
 //!   verdict that both reported is the first, no two differ, and a move that both acknowledged is kept by both. That it prints
 //!   this is `send_moves`, clause `made`.
+//! - CLAIM: `sources_get_on`: a run of `send` ends as its game does, where all that came of it was sent in a world of it, and a report of the whole
+//!   game came of both arbiters before the end: with the first verdict, or open where the game has none; or by its port or its input.
 //! - CLAIM: `no_tag_no_forgery`: where no datagram has a forged tag, a port with keys passes on no forged message.
 #![tactic(auto)]
 
@@ -53,10 +59,10 @@ mod served_stores;
 mod sources;
 
 pub use arbiters::{arbiters_are_worlds, arbiters_tell_the_truth};
-pub use hosts::{acks_are_found, hosts_are_worlds, hosts_tell_the_truth};
+pub use hosts::{acks_are_found, hosts_are_worlds, hosts_get_on, hosts_tell_the_truth};
 pub use seals::no_tag_no_forgery;
 pub use served::{
     served_are_hosted, served_are_woven, served_folder_is_hosted, served_game_is_hosted,
 };
 pub use served_stores::served_stores_are_woven;
-pub use sources::{sends_the_log, sources_tell_the_truth};
+pub use sources::{sends_the_log, sources_get_on, sources_tell_the_truth};
