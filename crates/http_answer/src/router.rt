@@ -5,13 +5,17 @@ ghost use Rattle.http_server.specs.Response.{IsBlank, IsResponse};
 ghost use Rattle.game_reports.specs.Asked.{AreBothNamed};
 ghost use Rattle.game_reports.specs.Readings.{OnlyReads};
 ghost use Rattle.http_answer.specs.Files.{files_of};
-ghost use Rattle.http_answer.specs.Games.{AnswersOfGames, AskedOfGames, AsksBelow, AsksByDigits, AsksOfGames, AsksToWatch, AreOfOne, HasGame, HasReport, HasReportText, IsAged, IsByMethod, IsReportAt, MayAnswer, Routes, fresh_at, fresh_fields, fresh_json, is_games, is_watch, kept_by, lacked_text};
+ghost use Rattle.http_answer.specs.Games.{AnswersOfGames, AskedOfGames, AsksBelow, AsksByDigits, AsksOfGames, AsksToWatch, AreOfOne, HasGame, HasReport, HasReportText, IsAged, IsByMethod, IsReportAt, MayAnswer, Responds, Routes, fresh_at, fresh_fields, fresh_json, is_games, is_watch, kept_by, lacked_text};
 ghost use Rattle.http_answer.specs.Inside.{HasGameText, asked_of_games, report_in};
+ghost use Rattle.http_answer.specs.Reads.{ReadsForRequest, paths_of};
 ghost use Rattle.http_answer.specs.Times.{nanos};
+ghost use Rattle.timeline.specs.Outsides.{AddsSome};
 
 use crate::answerer::Answerer;
 use crate::asking::{Place, Verb, verb_at};
-use crate::filling::{fill_kept, fill_methods, fill_other_method, fill_page, fill_unknown_method};
+use crate::filling::{
+    fill_kept, fill_methods, fill_other_method, fill_page, fill_starved, fill_unknown_method,
+};
 use crate::games::{Games, LackedFolder};
 use crate::plies::game_text;
 use crate::times::Times;
@@ -385,7 +389,7 @@ fn answer_by_method<S: System, C: Times>(
 
 impl<'r, 's, S: System, C: Times> Router<'r, 's, S, C> {
     /// Fills the response to a request, which comes blank. The error comes where memory is refused.
-    pub fn answer(
+    fn route(
         &mut self,
         timeline: &mut S::Timeline,
         request: &Request<Bytes>,
@@ -395,7 +399,7 @@ impl<'r, 's, S: System, C: Times> Router<'r, 's, S, C> {
         requires blank { IsBlank response.old }
         ensures answered { OnOk result (Routes S.outside C.says self.old.answerer self.old.games request.now response.new self.new.answerer self.new.games) }
         ensures same { OnErr result (self.new ≡ self.old) }
-        ensures made { OnlyReads (S.outside self.old.answerer.disk.system.now) timeline.old timeline.new }
+        ensures made { AddsSome (S.outside self.old.answerer.disk.system.now) timeline.old timeline.new (ReadsForRequest (S.outside self.old.answerer.disk.system.now) self.old.answerer.folder (paths_of self.old.games) request.now) }
     {
         let Some(games) = &mut self.games else {
             return self.answerer.answer(timeline, request, response);
@@ -410,6 +414,24 @@ impl<'r, 's, S: System, C: Times> Router<'r, 's, S, C> {
                 response,
             ),
             None => self.answerer.answer(timeline, request, response),
+        }
+    }
+
+    /// Fills the response to a request, which comes blank. Where memory is refused for that, it is 503, with no field and no body.
+    pub fn answer(
+        &mut self,
+        timeline: &mut S::Timeline,
+        request: &Request<Bytes>,
+        response: &mut Response,
+    )
+        requires one { AreOfOne self.old.answerer self.old.games }
+        requires blank { IsBlank response.old }
+        ensures answered { Responds S.outside C.says self.old.answerer self.old.games request.now response.new self.new.answerer self.new.games }
+        ensures made { AddsSome (S.outside self.old.answerer.disk.system.now) timeline.old timeline.new (ReadsForRequest (S.outside self.old.answerer.disk.system.now) self.old.answerer.folder (paths_of self.old.games) request.now) }
+    {
+        match self.route(timeline, request, response) {
+            Ok(()) => {}
+            Err(_) => fill_starved(response),
         }
     }
 }
