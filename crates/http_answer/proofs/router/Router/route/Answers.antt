@@ -4,6 +4,7 @@ use Rattle.http_uri.specs.Uri.{uri_path}
 use Rattle.http_answer.specs.Games.{AsksOfGames, IsByMethod, MayAnswer, OfGames, OfTables, places_of}
 use Rattle.http_answer.specs.Inside.{asked_of_games}
 use Rattle.http_answer.proofs.RouterLaws.{by_action_stays, elsewhere, router_same}
+use Rattle.http_answer.proofs.ReadLaws.{games_asked, none_named, tables_asked}
 use Rattle.http_answer.proofs.router.Router.route.Goals as goal
 
 pub returns-in-Some-topic_at-clause-answered : goal.returns-in-Some-topic_at-clause-answered
@@ -33,3 +34,16 @@ returns-in-None-clause-answered g c =
 pub returns-in-Some-topic_at-clause-same : goal.returns-in-Some-topic_at-clause-same
 returns-in-Some-topic_at-clause-same g c =
     on_err_weaker c.answer_by_method.result (λ same. router_same c.args.self.now _ _ _ c.answer_by_method.ensures.same same c.in-Some.is) c.answer_by_method.ensures.same_games
+
+pub returns-in-Some-topic_at-clause-made : goal.returns-in-Some-topic_at-clause-made
+returns-in-Some-topic_at-clause-made g c =
+    let a = asked_of_games c.in-Some-topic_at.topic in
+    let asks = subst (λ (path : List ℕ). AsksOfGames path a) (c.path.ensures.value ∙ ap uri_path c.uri.ensures) c.in-Some-topic_at.ensures.some in
+    games_asked g.S.System.outside _ c.args.self.now.games c.in-Some.games _ _ _ _ a c.in-Some.is asks (c.as_str.ensures.value ∙ c.method.ensures) c.answer_by_method.ensures.made
+
+pub returns-in-None-clause-made : goal.returns-in-None-clause-made
+returns-in-None-clause-made g c =
+    tables_asked g.S.System.outside _ c.args.self.now.games _ _ _ (elsewhere c.args.self.now.games c.in-Some.games _ c.path.result.now c.in-Some.is (c.path.ensures.value ∙ ap uri_path c.uri.ensures) c.in-None.ensures.none) c.answer-in-None.ensures.made
+
+pub returns-in_default-clause-made : goal.returns-in_default-clause-made
+returns-in_default-clause-made g c = tables_asked g.S.System.outside _ c.args.self.now.games _ _ _ (none_named c.args.self.now.games _ c.in_default.is) c.answer.ensures.made
