@@ -4,6 +4,7 @@ pub mod Fields
 pub mod LineLaws
 pub mod OpenReadLaws
 pub mod PlyLaws
+pub mod ReadLaws
 pub mod Replied
 pub mod ReportLaws
 pub mod RouterLaws

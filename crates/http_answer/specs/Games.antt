@@ -43,7 +43,7 @@ use Rattle.table_folder.specs.Settled.{AnswersBy, IsAlone, IsRefusedAt}
 use Rattle.timeline.specs.Events.{Event}
 use Rattle.timeline.specs.Outsides.{Outside}
 use Rattle.http_answer.specs.Files.{files_of}
-use Rattle.http_answer.specs.Places.{Action, HasMethods, LacksMethod, RefusesMethod, action_of, an_hour, html_type, kept_for, methods_of, typed}
+use Rattle.http_answer.specs.Places.{Action, HasMethods, LacksMemory, LacksMethod, RefusesMethod, action_of, an_hour, html_type, kept_for, methods_of, typed}
 use Rattle.http_answer.specs.Places.Action.{Reads, ListsMethods, IsRefused, IsUnknown}
 use Rattle.http_answer.specs.Places.Place.{FoldersOfGames}
 use Rattle.http_answer.specs.Replies.{IsReply, refused_words}
@@ -380,17 +380,23 @@ pub data IsServed {G C T P F K S L : Type 0} (outside : G → Outside T P F K S 
   OfGames : (was now : GamesByClock G C) → old ≡ Some was → new ≡ Some now → (a : AskedOfGames) → AsksOfGames (path_of request) a
       → IsByMethod (head_of request).method (MayAnswer outside says tables a) was now r → IsServed outside says tables old new request r
 
+-- a request is served so; or memory was refused for that, and what is kept of reports stays
+pub data IsResponded {G C T P F K S L : Type 0} (outside : G → Outside T P F K S L) (says : C → Option ℕ → Type 0) (tables : FolderOn (SystemFiles G))
+    (old new : Option (GamesByClock G C)) (request : Request (List ℕ)) (r : Response) : Type 0 where
+  ByFolders : IsServed outside says tables old new request r → IsResponded outside says tables old new request r
+  ForWantOfMemory : LacksMemory r → new ≡ old → IsResponded outside says tables old new request r
+
 -- the folders of games, if they are named
 abbrev pub places_of : {G C : Type 0} → Option (GamesByClock G C) → Option (GamesOn G)
 places_of games = option_map (λ g. g.on) games
 
--- a call is served so by these folders, whatever is kept of reports before and after it
+-- a call is answered so by these folders, whatever is kept of reports before and after it
 pub record IsServedCall {G C T P F K S L : Type 0} (outside : G → Outside T P F K S L) (says : C → Option ℕ → Type 0) (tables : FolderOn (SystemFiles G))
     (on : Option (GamesOn G)) (c : Call) : Type 0 where
   pub old : Option (GamesByClock G C)
   pub new : Option (GamesByClock G C)
   pub same : places_of old ≡ on
-  pub served : IsServed outside says tables old new c.0 c.1
+  pub answered : IsResponded outside says tables old new c.0 c.1
 
 -- the folders of games, if they are named, and that of the tables are on one system
 abbrev pub AreOfOne : {G C : Type 0} → FolderOn (SystemFiles G) → Option (GamesByClock G C) → Type 0
@@ -401,5 +407,12 @@ AreOfOne tables (Some games) = games.on.system ≡ tables.disk.system.now
 pub record Routes {G C T P F K S L : Type 0} (outside : G → Outside T P F K S L) (says : C → Option ℕ → Type 0) (tables : FolderOn (SystemFiles G))
     (old : Option (GamesByClock G C)) (request : Request (List ℕ)) (r : Response) (after : FolderOn (SystemFiles G)) (new : Option (GamesByClock G C)) : Type 0 where
   pub served : IsServed outside says tables old new request r
+  pub tables_stay : after ≡ tables
+  pub games_stay : places_of new ≡ places_of old
+
+-- the same, or memory was refused for that
+pub record Responds {G C T P F K S L : Type 0} (outside : G → Outside T P F K S L) (says : C → Option ℕ → Type 0) (tables : FolderOn (SystemFiles G))
+    (old : Option (GamesByClock G C)) (request : Request (List ℕ)) (r : Response) (after : FolderOn (SystemFiles G)) (new : Option (GamesByClock G C)) : Type 0 where
+  pub answered : IsResponded outside says tables old new request r
   pub tables_stay : after ≡ tables
   pub games_stay : places_of new ≡ places_of old

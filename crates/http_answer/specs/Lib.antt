@@ -5,3 +5,4 @@ pub mod Places
 pub mod Queries
 pub mod Replies
 pub mod Times
+pub mod Reads

@@ -139,3 +139,7 @@ RefusesMethod place r = IsResponse 405 (refusal_fields place) (codes "{\"error\"
 
 abbrev pub LacksMethod : Response → Type 0
 LacksMethod r = IsResponse 501 (json_type ∷ []) (codes "{\"error\":\"method not implemented\"}") r
+
+-- memory was refused for another response
+abbrev pub LacksMemory : Response → Type 0
+LacksMemory r = IsResponse 503 [] [] r

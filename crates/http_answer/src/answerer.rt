@@ -5,9 +5,9 @@ ghost use Rattle.http_server.specs.Response.{IsBlank};
 ghost use Rattle.http_answer.specs.Games.{AnswersAlone};
 ghost use Rattle.http_answer.specs.Inside.{AddsObject, AreObjects, HasAnswers, IsOnePly, asked_for};
 ghost use Rattle.http_answer.specs.Queries.{asked_lines};
-ghost use Rattle.http_answer.specs.Replies.{HasLine, HasLines, IsBestPlay, IsLineOfPlay, IsPlayedOn, IsPositionBy, IsRefusedInLine, IsRefusedLineOf, IsReply, IsReplyTo, RefusesFile, AnswersMainline, AnswersMainlineOf, AnswersEach, AnswersPosition, AnswersText, most_plies, refused_words};
-ghost use Rattle.game_reports.specs.Readings.{OnlyReads};
+ghost use Rattle.http_answer.specs.Replies.{HasLine, HasLines, IsBestPlay, IsLineOfPlay, IsPlayedOn, IsPositionBy, IsRefusedInLine, IsRefusedLineOf, IsReply, IsReplyTo, RefusesFile, AnswersMainline, AnswersMainlineOf, AnswersEach, AnswersPosition, AnswersText, asked, most_plies, refused_words};
 ghost use Rattle.http_answer.specs.Files.{files_of};
+ghost use Rattle.http_answer.specs.Reads.{ReadsForAsked, ReadsForText, ReadsOver, ReadsTableFiles};
 ghost use Rattle.table_folder.specs.Settled.{IsRefusedAt, IsRefusedFor, IsWithMoves};
 
 use crate::asking::{Topic, topic_of};
@@ -116,7 +116,7 @@ impl<'r, 's, S: System> Answerer<'r, 's, S> {
     ) -> Result<ApiLine, AllocError>
         ensures answer { IfOk result (AnswersPosition (files_of S.outside self.old.disk) self.old.folder position.now) }
         ensures same { self.new ≡ self.old }
-        ensures made { OnlyReads (S.outside self.old.disk.system.now) timeline.old timeline.new }
+        ensures made { ReadsTableFiles S.outside self.old timeline.old timeline.new }
     {
         if let Err(refusal) = self
             .folder
@@ -135,7 +135,7 @@ impl<'r, 's, S: System> Answerer<'r, 's, S> {
     ) -> Result<JsonLine, AllocError>
         ensures answer { IfOk result (AnswersAlone (files_of S.outside self.old.disk) self.old.folder position.now) }
         ensures same { self.new ≡ self.old }
-        ensures made { OnlyReads (S.outside self.old.disk.system.now) timeline.old timeline.new }
+        ensures made { ReadsTableFiles S.outside self.old timeline.old timeline.new }
     {
         if let Err(refusal) = self
             .folder
@@ -151,7 +151,7 @@ impl<'r, 's, S: System> Answerer<'r, 's, S> {
     fn line_for(&mut self, timeline: &mut S::Timeline, text: &[u8]) -> Result<ApiLine, AllocError>
         ensures answer { IfOk result (AnswersText (files_of S.outside self.old.disk) self.old.folder text.now) }
         ensures same { self.new ≡ self.old }
-        ensures made { OnlyReads (S.outside self.old.disk.system.now) timeline.old timeline.new }
+        ensures made { ReadsOver S.outside self.old timeline.old timeline.new (λ o folder. ReadsForText folder text.now) }
     {
         match read(text) {
             Ok(position) => self.line_of(timeline, &position),
@@ -168,7 +168,7 @@ impl<'r, 's, S: System> Answerer<'r, 's, S> {
         ensures answer { IfOk result (λ found. IfOk found (IsPositionBy (files_of S.outside self.old.disk) self.old.folder position.now)) }
         ensures refused { IfOk result (λ found. IfErr found (IsRefusedAt (files_of S.outside self.old.disk) self.old.folder position.now)) }
         ensures same { self.new ≡ self.old }
-        ensures made { OnlyReads (S.outside self.old.disk.system.now) timeline.old timeline.new }
+        ensures made { ReadsTableFiles S.outside self.old timeline.old timeline.new }
     {
         if let Err(refusal) = self
             .folder
@@ -189,7 +189,7 @@ impl<'r, 's, S: System> Answerer<'r, 's, S> {
         ensures answer { IfOk result (λ found. IfOk found (IsPlayedOn (files_of S.outside self.old.disk) self.old.folder position.now)) }
         ensures refused { IfOk result (λ found. IfErr found (IsRefusedFor (files_of S.outside self.old.disk) self.old.folder (IsWithMoves position.now))) }
         ensures same { self.new ≡ self.old }
-        ensures made { OnlyReads (S.outside self.old.disk.system.now) timeline.old timeline.new }
+        ensures made { ReadsTableFiles S.outside self.old timeline.old timeline.new }
     {
         if let Err(refusal) = self
             .folder
@@ -211,7 +211,7 @@ impl<'r, 's, S: System> Answerer<'r, 's, S> {
         ensures played { IfOk result (λ found. IfOk found (IsOnePly (files_of S.outside self.old.disk) self.old.folder position.now plies.old.items plies.new.items)) }
         ensures refused { IfOk result (λ found. IfErr found (IsRefusedFor (files_of S.outside self.old.disk) self.old.folder (IsWithMoves position.now))) }
         ensures same { self.new ≡ self.old }
-        ensures made { OnlyReads (S.outside self.old.disk.system.now) timeline.old timeline.new }
+        ensures made { ReadsTableFiles S.outside self.old timeline.old timeline.new }
     {
         let best = match self.best_move(timeline, position)? {
             Ok(best) => best,
@@ -236,7 +236,7 @@ impl<'r, 's, S: System> Answerer<'r, 's, S> {
         ensures answer { IfOk result (λ found. IfOk found (λ plies. IsBestPlay (files_of S.outside self.old.disk) self.old.folder start.now plies.items)) }
         ensures refused { IfOk result (λ found. IfErr found (IsRefusedInLine (files_of S.outside self.old.disk) self.old.folder most_plies start.now)) }
         ensures same { self.new ≡ self.old }
-        ensures made { OnlyReads (S.outside self.old.disk.system.now) timeline.old timeline.new }
+        ensures made { ReadsTableFiles S.outside self.old timeline.old timeline.new }
     {
         let mut plies = Vec::new(self.alloc);
         let mut position = *start;
@@ -261,7 +261,7 @@ impl<'r, 's, S: System> Answerer<'r, 's, S> {
         ensures answer { IfOk result (λ found. IfOk found (λ plies. IsLineOfPlay (files_of S.outside self.old.disk) self.old.folder winner start.now plies.items)) }
         ensures refused { IfOk result (λ found. IfErr found (IsRefusedLineOf (files_of S.outside self.old.disk) self.old.folder winner start.now)) }
         ensures same { self.new ≡ self.old }
-        ensures made { OnlyReads (S.outside self.old.disk.system.now) timeline.old timeline.new }
+        ensures made { ReadsTableFiles S.outside self.old timeline.old timeline.new }
     {
         match winner {
             Some(_) => self.plies_from(timeline, start),
@@ -277,7 +277,7 @@ impl<'r, 's, S: System> Answerer<'r, 's, S> {
     ) -> Result<ApiLine, AllocError>
         ensures answer { IfOk result (AnswersMainline (files_of S.outside self.old.disk) self.old.folder position.now) }
         ensures same { self.new ≡ self.old }
-        ensures made { OnlyReads (S.outside self.old.disk.system.now) timeline.old timeline.new }
+        ensures made { ReadsTableFiles S.outside self.old timeline.old timeline.new }
     {
         let known = match self.position_by(timeline, position)? {
             Ok(known) => known,
@@ -298,7 +298,7 @@ impl<'r, 's, S: System> Answerer<'r, 's, S> {
     ) -> Result<ApiLine, AllocError>
         ensures answer { IfOk result (AnswersMainlineOf (files_of S.outside self.old.disk) self.old.folder text.now) }
         ensures same { self.new ≡ self.old }
-        ensures made { OnlyReads (S.outside self.old.disk.system.now) timeline.old timeline.new }
+        ensures made { ReadsOver S.outside self.old timeline.old timeline.new (λ o folder. ReadsForText folder text.now) }
     {
         match read(text) {
             Ok(position) => self.mainline_of(timeline, &position),
@@ -316,7 +316,7 @@ impl<'r, 's, S: System> Answerer<'r, 's, S> {
     ) -> Result<(), AllocError>
         ensures answer { OnOk result (AddsObject (files_of S.outside self.old.disk) self.old.folder words.now objects.old.items objects.new.items) }
         ensures same { self.new ≡ self.old }
-        ensures made { OnlyReads (S.outside self.old.disk.system.now) timeline.old timeline.new }
+        ensures made { ReadsTableFiles S.outside self.old timeline.old timeline.new }
     {
         let text = position_text(self.alloc, words)?;
         let line = self.line_for(timeline, &text)?;
@@ -331,7 +331,7 @@ impl<'r, 's, S: System> Answerer<'r, 's, S> {
     ) -> Result<Vec<u8>, AllocError>
         ensures answer { IfOk result (λ objects. AreObjects (files_of S.outside self.old.disk) self.old.folder body.now objects.items) }
         ensures same { self.new ≡ self.old }
-        ensures made { OnlyReads (S.outside self.old.disk.system.now) timeline.old timeline.new }
+        ensures made { ReadsTableFiles S.outside self.old timeline.old timeline.new }
     {
         let mut objects = Vec::new(self.alloc);
         let mut rest = body;
@@ -352,7 +352,7 @@ impl<'r, 's, S: System> Answerer<'r, 's, S> {
         requires { IsBlank response.old }
         ensures answer { OnOk result (HasAnswers (files_of S.outside self.old.disk) self.old.folder (asked_lines body.now) response.new) }
         ensures same { self.new ≡ self.old }
-        ensures made { OnlyReads (S.outside self.old.disk.system.now) timeline.old timeline.new }
+        ensures made { ReadsTableFiles S.outside self.old timeline.old timeline.new }
     {
         let objects = self.objects_for(timeline, body)?;
         fill_objects(response, &objects)
@@ -369,7 +369,7 @@ impl<'r, 's, S: System> Answerer<'r, 's, S> {
         requires { IsBlank response.old }
         ensures replied { OnOk result (IsReplyTo (files_of S.outside self.old.disk) self.old.folder (asked_for topic.now) response.new) }
         ensures same { self.new ≡ self.old }
-        ensures made { OnlyReads (S.outside self.old.disk.system.now) timeline.old timeline.new }
+        ensures made { ReadsOver S.outside self.old timeline.old timeline.new (λ o folder. ReadsForAsked folder (asked_for topic.now)) }
     {
         match topic {
             Topic::Page => fill_page(response, PAGE),
@@ -406,7 +406,7 @@ impl<'r, 's, S: System> Answerer<'r, 's, S> {
         requires { IsBlank response.old }
         ensures replied { OnOk result (IsReply (files_of S.outside) self.old request.now response.new) }
         ensures same { self.new ≡ self.old }
-        ensures made { OnlyReads (S.outside self.old.disk.system.now) timeline.old timeline.new }
+        ensures made { ReadsOver S.outside self.old timeline.old timeline.new (λ o folder. ReadsForAsked folder (asked request.now)) }
     {
         let topic = topic_of(self.alloc, request)?;
         if self.reply(timeline, &topic, response).is_ok() {

@@ -3,7 +3,7 @@
 ghost use Rattle.std.specs.Prelude.{◌≡◌, ◌∷◌, ◌++◌, [], OnOk, codes};
 ghost use Rattle.http_server.specs.Response.{IsBlank, IsResponse, fields_of};
 ghost use Rattle.http_answer.specs.Inside.{place_for};
-ghost use Rattle.http_answer.specs.Places.{HasMethods, LacksMethod, RefusesMethod, allowed, an_hour, any_origin, html_type, json_type, kept_for, listed, methods_of, preflight, typed};
+ghost use Rattle.http_answer.specs.Places.{HasMethods, LacksMemory, LacksMethod, RefusesMethod, allowed, an_hour, any_origin, html_type, json_type, kept_for, listed, methods_of, preflight, typed};
 ghost use Rattle.http_answer.specs.Replies.{HasError, HasLine, lifetime_of, object_text, status_of, value_lifetime, value_status};
 ghost use Rattle.move_msg.specs.TextLines.{ended};
 
@@ -216,6 +216,14 @@ pub(crate) fn fill_unknown_method(response: &mut Response) -> Result<(), AllocEr
         HeaderValue::from_static("application/json"),
         b"{\"error\":\"method not implemented\"}",
     )
+}
+
+/// Fills a response that says that memory is refused, whatever it had before. It takes none.
+pub(crate) fn fill_starved(response: &mut Response)
+    ensures { LacksMemory response.new }
+{
+    response.clear();
+    response.status = StatusCode::SERVICE_UNAVAILABLE;
 }
 
 /// Adds an object of the tablebase API to a text.

@@ -2,9 +2,9 @@
 
 ghost use Rattle.std.specs.Prelude.{◌≡◌, IfErr, IfNone, IfOk, IfSome, None, Some, is_some, option_map};
 ghost use Rattle.game_reports.specs.Asked.{AreBothNamed};
-ghost use Rattle.game_reports.specs.Readings.{OnlyReads};
 ghost use Rattle.http_answer.specs.Games.{IsGameOrNone, IsReport, LacksGames, fresh_at, games_on, is_fresh, kept_at, kept_by, unread_games, with_kept};
 ghost use Rattle.http_answer.specs.Inside.{IsKeptAt, is_lacked, kept_in, report_in};
+ghost use Rattle.http_answer.specs.Reads.{ReadsAGame, ReadsAReport, ReadsIn};
 ghost use Rattle.http_answer.specs.Times.{nanos};
 ghost use Rattle.std.specs.Time.{instant_nanos};
 
@@ -64,7 +64,7 @@ impl<'r, S: System> GameFolders<'r, S> {
         form: ReportForm,
     ) -> Result<Report, AllocError>
         ensures report { IfOk result (λ r. IsReport S.outside (games_on self.now) form (report_in r)) }
-        ensures made { OnlyReads (S.outside self.now.system.now) timeline.old timeline.new }
+        ensures made { ReadsIn S.outside (games_on self.now) timeline.old timeline.new (λ o folders. ReadsAReport o folders form) }
     {
         match read_report(alloc, self.system, timeline, self.games, self.other, form) {
             Ok(Ok(text)) => Ok(Ok(text)),
@@ -86,7 +86,7 @@ impl<'r, S: System> GameFolders<'r, S> {
         ensures game { IfOk result (λ r. IfOk r (IsGameOrNone S.outside (games_on self.now) stamp)) }
         ensures lacked { IfOk result (λ r. IfErr r (LacksGames S.outside (games_on self.now))) }
         ensures named { IfOk result (λ r. IfOk r (λ found. IfSome found AreBothNamed)) }
-        ensures made { OnlyReads (S.outside self.now.system.now) timeline.old timeline.new }
+        ensures made { ReadsIn S.outside (games_on self.now) timeline.old timeline.new (λ o folders. ReadsAGame o folders stamp) }
     {
         match read_game(alloc, self.system, timeline, self.games, self.other, stamp) {
             Ok(Ok(found)) => Ok(Ok(found)),
@@ -211,7 +211,7 @@ impl<'r, S: System, C: Times> Games<'r, S, C> {
         form: ReportForm,
     ) -> Result<Report, AllocError>
         ensures report { IfOk result (λ r. IsReport S.outside self.now.on form (report_in r)) }
-        ensures made { OnlyReads (S.outside self.now.on.system) timeline.old timeline.new }
+        ensures made { ReadsIn S.outside self.now.on timeline.old timeline.new (λ o folders. ReadsAReport o folders form) }
     {
         self.folders.report(self.alloc, timeline, form)
     }
@@ -236,7 +236,7 @@ impl<'r, S: System, C: Times> Games<'r, S, C> {
         ensures game { IfOk result (λ r. IfOk r (IsGameOrNone S.outside self.now.on stamp)) }
         ensures lacked { IfOk result (λ r. IfErr r (LacksGames S.outside self.now.on)) }
         ensures named { IfOk result (λ r. IfOk r (λ found. IfSome found AreBothNamed)) }
-        ensures made { OnlyReads (S.outside self.now.on.system) timeline.old timeline.new }
+        ensures made { ReadsIn S.outside self.now.on timeline.old timeline.new (λ o folders. ReadsAGame o folders stamp) }
     {
         self.folders.game(self.alloc, timeline, stamp)
     }

@@ -6,10 +6,10 @@ ghost use Rattle.json.specs.Json.{document};
 ghost use Rattle.json.specs.Tree.{json_tokens};
 ghost use Rattle.json_lines.specs.Objects.{line_json};
 ghost use Rattle.game_status.specs.StatusObjects.{AddsMembers, AddsTokens, AreNamed};
-ghost use Rattle.game_reports.specs.Readings.{OnlyReads};
 ghost use Rattle.http_answer.specs.Files.{files_of};
 ghost use Rattle.http_answer.specs.Games.{ArePliesOf, HasPlies, delay_in, moves_in};
 ghost use Rattle.http_answer.specs.Inside.{AddsGame, AddsList, AddsMoves, AddsNext, AddsPlies, AddsPosition, AddsStart, IsGameText, move_members};
+ghost use Rattle.http_answer.specs.Reads.{ReadsTableFiles};
 
 use crate::answerer::Answerer;
 use board_core::{Move, Position};
@@ -56,7 +56,7 @@ fn add_position<S: System>(
 ) -> Result<(), AllocError>
     ensures added { OnOk result (AddsPosition (files_of S.outside answerer.old.disk) answerer.old.folder position.now text.old text.new) }
     ensures same { answerer.new ≡ answerer.old }
-    ensures made { OnlyReads (S.outside answerer.old.disk.system.now) timeline.old timeline.new }
+    ensures made { ReadsTableFiles S.outside answerer.old timeline.old timeline.new }
 {
     add_text(text, "fen", Some(write(position).as_str()))?;
     let line = answerer.line_alone(timeline, position)?;
@@ -74,7 +74,7 @@ fn add_start<S: System>(
 ) -> Result<(), AllocError>
     ensures added { OnOk result (AddsStart (files_of S.outside answerer.old.disk) answerer.old.folder start.now text.old text.new) }
     ensures same { answerer.new ≡ answerer.old }
-    ensures made { OnlyReads (S.outside answerer.old.disk.system.now) timeline.old timeline.new }
+    ensures made { ReadsTableFiles S.outside answerer.old timeline.old timeline.new }
 {
     text.begin_object()?;
     add_text(text, "uci", None)?;
@@ -104,7 +104,7 @@ fn add_next<S: System>(
     ensures none { IfOk result (λ next. IfNone next (position_after position.now m.now ≡ None)) }
     ensures nothing { IfOk result (λ next. IfNone next (text.new ≡ text.old)) }
     ensures same { answerer.new ≡ answerer.old }
-    ensures made { OnlyReads (S.outside answerer.old.disk.system.now) timeline.old timeline.new }
+    ensures made { ReadsTableFiles S.outside answerer.old timeline.old timeline.new }
 {
     let Some(after) = position.play(*m) else {
         return Ok(None);
@@ -129,7 +129,7 @@ fn add_moves<S: System>(
 ) -> Result<(), AllocError>
     ensures added { OnOk result (AddsMoves (files_of S.outside answerer.old.disk) answerer.old.folder start.now moves.now text.old text.new) }
     ensures same { answerer.new ≡ answerer.old }
-    ensures made { OnlyReads (S.outside answerer.old.disk.system.now) timeline.old timeline.new }
+    ensures made { ReadsTableFiles S.outside answerer.old timeline.old timeline.new }
 {
     let mut position = *start;
     let mut rest = moves;
@@ -162,7 +162,7 @@ fn add_plies_of<S: System>(
 ) -> Result<(), AllocError>
     ensures added { OnOk result (AddsPlies (ArePliesOf (files_of S.outside answerer.old.disk) answerer.old.folder side.now) text.old text.new) }
     ensures same { answerer.new ≡ answerer.old }
-    ensures made { OnlyReads (S.outside answerer.old.disk.system.now) timeline.old timeline.new }
+    ensures made { ReadsTableFiles S.outside answerer.old timeline.old timeline.new }
 {
     let start = &side.game.start;
     add_start(answerer, timeline, text, start)?;
@@ -179,7 +179,7 @@ fn add_plies<S: System>(
 ) -> Result<(), AllocError>
     ensures added { OnOk result (AddsPlies (HasPlies (files_of S.outside answerer.old.disk) answerer.old.folder look.now) text.old text.new) }
     ensures same { answerer.new ≡ answerer.old }
-    ensures made { OnlyReads (S.outside answerer.old.disk.system.now) timeline.old timeline.new }
+    ensures made { ReadsTableFiles S.outside answerer.old timeline.old timeline.new }
 {
     match look {
         Look::One(side) => add_plies_of(answerer, timeline, text, side),
@@ -198,7 +198,7 @@ fn add_list<S: System>(
 ) -> Result<(), AllocError>
     ensures added { OnOk result (AddsList (HasPlies (files_of S.outside answerer.old.disk) answerer.old.folder look.now) text.old text.new) }
     ensures same { answerer.new ≡ answerer.old }
-    ensures made { OnlyReads (S.outside answerer.old.disk.system.now) timeline.old timeline.new }
+    ensures made { ReadsTableFiles S.outside answerer.old timeline.old timeline.new }
 {
     text.key("plies")?;
     text.begin_array()?;
@@ -231,7 +231,7 @@ fn add_game<S: System>(
     requires both { AreNamed found.now.both }
     ensures added { OnOk result (AddsGame (files_of S.outside answerer.old.disk) answerer.old.folder compares stamp found.now text.old text.new) }
     ensures same { answerer.new ≡ answerer.old }
-    ensures made { OnlyReads (S.outside answerer.old.disk.system.now) timeline.old timeline.new }
+    ensures made { ReadsTableFiles S.outside answerer.old timeline.old timeline.new }
 {
     text.begin_object()?;
     add_stamp(text, stamp)?;
@@ -254,7 +254,7 @@ pub(crate) fn game_text<S: System>(
     requires both { AreNamed found.now.both }
     ensures text { IfOk result (λ text. IsGameText (files_of S.outside answerer.old.disk) answerer.old.folder compares stamp found.now text.items) }
     ensures same { answerer.new ≡ answerer.old }
-    ensures made { OnlyReads (S.outside answerer.old.disk.system.now) timeline.old timeline.new }
+    ensures made { ReadsTableFiles S.outside answerer.old timeline.old timeline.new }
 {
     let mut text = Writer::new(Vec::new(answerer.alloc()));
     add_game(answerer, timeline, &mut text, stamp, found, compares)?;

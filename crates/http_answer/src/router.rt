@@ -3,15 +3,17 @@
 ghost use Rattle.std.specs.Prelude.{◌≡◌, ◌++◌, ℕ, List, IfNone, IfSome, None, OnErr, OnOk};
 ghost use Rattle.http_server.specs.Response.{IsBlank, IsResponse};
 ghost use Rattle.game_reports.specs.Asked.{AreBothNamed};
-ghost use Rattle.game_reports.specs.Readings.{OnlyReads};
 ghost use Rattle.http_answer.specs.Files.{files_of};
-ghost use Rattle.http_answer.specs.Games.{AnswersOfGames, AskedOfGames, AsksBelow, AsksByDigits, AsksOfGames, AsksToWatch, AreOfOne, HasGame, HasReport, HasReportText, IsAged, IsByMethod, IsReportAt, MayAnswer, Routes, fresh_at, fresh_fields, fresh_json, is_games, is_watch, kept_by, lacked_text};
+ghost use Rattle.http_answer.specs.Games.{AnswersOfGames, AskedOfGames, AsksBelow, AsksByDigits, AsksOfGames, AsksToWatch, AreOfOne, HasGame, HasReport, HasReportText, IsAged, IsByMethod, IsReportAt, MayAnswer, Responds, Routes, fresh_at, fresh_fields, fresh_json, is_games, is_watch, kept_by, lacked_text};
 ghost use Rattle.http_answer.specs.Inside.{HasGameText, asked_of_games, report_in};
+ghost use Rattle.http_answer.specs.Reads.{ReadsAReport, ReadsByMethod, ReadsForGame, ReadsForGames, ReadsForReport, ReadsForRequest, ReadsIn, ReadsOnceForGame, ReadsOver, ReadsTableFiles, paths_of, paths_on};
 ghost use Rattle.http_answer.specs.Times.{nanos};
 
 use crate::answerer::Answerer;
 use crate::asking::{Place, Verb, verb_at};
-use crate::filling::{fill_kept, fill_methods, fill_other_method, fill_page, fill_unknown_method};
+use crate::filling::{
+    fill_kept, fill_methods, fill_other_method, fill_page, fill_starved, fill_unknown_method,
+};
 use crate::games::{Games, LackedFolder};
 use crate::plies::game_text;
 use crate::times::Times;
@@ -203,7 +205,7 @@ fn fill_game<S: System>(
     requires blank { IsBlank response.old }
     ensures game { OnOk result (HasGameText (files_of S.outside answerer.old.disk) answerer.old.folder compares stamp found.now response.new) }
     ensures same { answerer.new ≡ answerer.old }
-    ensures made { OnlyReads (S.outside answerer.old.disk.system.now) timeline.old timeline.new }
+    ensures made { ReadsTableFiles S.outside answerer.old timeline.old timeline.new }
 {
     let text = game_text(answerer, timeline, stamp, found, compares)?;
     fill_fresh_json(response, StatusCode::OK, &text)
@@ -230,7 +232,7 @@ fn answer_game<S: System, C: Times>(
     requires blank { IsBlank response.old }
     ensures game { OnOk result (HasGame (files_of S.outside answerer.old.disk) answerer.old.folder S.outside games.now.on stamp response.new) }
     ensures same { answerer.new ≡ answerer.old }
-    ensures made { OnlyReads (S.outside answerer.old.disk.system.now) timeline.old timeline.new }
+    ensures made { ReadsOver S.outside answerer.old timeline.old timeline.new (λ o tables. ReadsOnceForGame o tables (paths_on games.now.on) stamp) }
 {
     match games.game(timeline, stamp)? {
         Ok(Some(found)) => {
@@ -264,7 +266,7 @@ fn answer_game_with_room<S: System, C: Times>(
     requires blank { IsBlank response.old }
     ensures game { OnOk result (HasGame (files_of S.outside answerer.old.disk) answerer.old.folder S.outside games.now.on stamp response.new) }
     ensures same { answerer.new ≡ answerer.old }
-    ensures made { OnlyReads (S.outside answerer.old.disk.system.now) timeline.old timeline.new }
+    ensures made { ReadsOver S.outside answerer.old timeline.old timeline.new (λ o tables. ReadsForGame o tables (paths_on games.now.on) stamp) }
 {
     if answer_game(answerer, games, timeline, stamp, response).is_ok() {
         return Ok(());
@@ -288,7 +290,7 @@ fn answer_anew<S: System, C: Times>(
     requires stale { fresh_at (nanos now) (kept_by form games.old) ≡ None }
     ensures report { OnOk result (HasReport S.outside games.old.on form kind.bytes (IsReportAt (nanos now) form games.old games.new) response.new) }
     ensures same { OnErr result (games.new ≡ games.old) }
-    ensures made { OnlyReads (S.outside games.old.on.system) timeline.old timeline.new }
+    ensures made { ReadsIn S.outside games.old.on timeline.old timeline.new (λ o folders. ReadsAReport o folders form) }
 {
     let report = games.read(timeline, form)?;
     fill_report(response, kind, &report)?;
@@ -308,7 +310,7 @@ fn answer_report<S: System, C: Times>(
     requires { IsBlank response.old }
     ensures report { OnOk result (HasReport S.outside games.old.on form kind.bytes (IsAged C.says form games.old games.new) response.new) }
     ensures same { OnErr result (games.new ≡ games.old) }
-    ensures made { OnlyReads (S.outside games.old.on.system) timeline.old timeline.new }
+    ensures made { ReadsIn S.outside games.old.on timeline.old timeline.new (λ o folders. ReadsForReport o folders form) }
 {
     let now = games.time();
     match games.fresh(form, now) {
@@ -331,7 +333,7 @@ fn answer<S: System, C: Times>(
     ensures answered { OnOk result (AnswersOfGames S.outside C.says answerer.old games.old games.new (asked_of_games topic) response.new) }
     ensures same { answerer.new ≡ answerer.old }
     ensures same_games { OnErr result (games.new ≡ games.old) }
-    ensures made { OnlyReads (S.outside answerer.old.disk.system.now) timeline.old timeline.new }
+    ensures made { ReadsOver S.outside answerer.old timeline.old timeline.new (λ o tables. ReadsForGames o tables (paths_on games.old.on) (asked_of_games topic)) }
 {
     match topic {
         GameTopic::Games => answer_report(
@@ -373,7 +375,7 @@ fn answer_by_method<S: System, C: Times>(
     ensures answer { OnOk result (IsByMethod method.now (MayAnswer S.outside C.says answerer.old (asked_of_games topic)) games.old games.new response.new) }
     ensures same { answerer.new ≡ answerer.old }
     ensures same_games { OnErr result (games.new ≡ games.old) }
-    ensures made { OnlyReads (S.outside answerer.old.disk.system.now) timeline.old timeline.new }
+    ensures made { ReadsOver S.outside answerer.old timeline.old timeline.new (λ o tables. ReadsByMethod method.now (ReadsForGames o tables (paths_on games.old.on) (asked_of_games topic))) }
 {
     match verb_at(Place::Games, method) {
         Verb::Read => answer(answerer, games, timeline, topic, response),
@@ -385,7 +387,7 @@ fn answer_by_method<S: System, C: Times>(
 
 impl<'r, 's, S: System, C: Times> Router<'r, 's, S, C> {
     /// Fills the response to a request, which comes blank. The error comes where memory is refused.
-    pub fn answer(
+    fn route(
         &mut self,
         timeline: &mut S::Timeline,
         request: &Request<Bytes>,
@@ -395,7 +397,7 @@ impl<'r, 's, S: System, C: Times> Router<'r, 's, S, C> {
         requires blank { IsBlank response.old }
         ensures answered { OnOk result (Routes S.outside C.says self.old.answerer self.old.games request.now response.new self.new.answerer self.new.games) }
         ensures same { OnErr result (self.new ≡ self.old) }
-        ensures made { OnlyReads (S.outside self.old.answerer.disk.system.now) timeline.old timeline.new }
+        ensures made { ReadsOver S.outside self.old.answerer timeline.old timeline.new (λ o tables. ReadsForRequest o tables (paths_of self.old.games) request.now) }
     {
         let Some(games) = &mut self.games else {
             return self.answerer.answer(timeline, request, response);
@@ -410,6 +412,24 @@ impl<'r, 's, S: System, C: Times> Router<'r, 's, S, C> {
                 response,
             ),
             None => self.answerer.answer(timeline, request, response),
+        }
+    }
+
+    /// Fills the response to a request, which comes blank. Where memory is refused for that, it is 503, with no field and no body.
+    pub fn answer(
+        &mut self,
+        timeline: &mut S::Timeline,
+        request: &Request<Bytes>,
+        response: &mut Response,
+    )
+        requires one { AreOfOne self.old.answerer self.old.games }
+        requires blank { IsBlank response.old }
+        ensures answered { Responds S.outside C.says self.old.answerer self.old.games request.now response.new self.new.answerer self.new.games }
+        ensures made { ReadsOver S.outside self.old.answerer timeline.old timeline.new (λ o tables. ReadsForRequest o tables (paths_of self.old.games) request.now) }
+    {
+        match self.route(timeline, request, response) {
+            Ok(()) => {}
+            Err(_) => fill_starved(response),
         }
     }
 }

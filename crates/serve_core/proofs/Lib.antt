@@ -1,4 +1,4 @@
+pub mod CallLaws
 pub mod Replying
 pub mod SeenLaws
 pub mod ServeLaws
-pub mod SinceLaws

@@ -10,6 +10,7 @@ use Rattle.answer_parts.specs.declared.answers.refusals.Refusal.{Refusal}
 use Rattle.answer_parts.specs.declared.answers.refusals.Refusal.TheVariants as refusal
 use Rattle.command_line.specs.declared.commands.serve.Serve.{Serve}
 use Rattle.http_answer.specs.Games.{AreOfOne, GamesByClock, unread_games}
+use Rattle.http_answer.specs.Reads.{GamePaths}
 use Rattle.line_teller.specs.ToldLines.{refused_memory}
 use Rattle.move_msg.specs.ToldBy.{told_by}
 use Rattle.move_msg.specs.ToldManifests.{TellsManifest, ToldManifest}
@@ -31,7 +32,7 @@ use Rattle.timeline.specs.declared.stream.Stream.TheVariants.{Output}
 use Rattle.serve_core.specs.GamesNamed.{games_for}
 use Rattle.serve_core.specs.Inside.{GoesOut, ReadsSound}
 use Rattle.serve_core.specs.Refusals.{refusal_for}
-use Rattle.serve_core.specs.Serve.{AllAnswered, AreOpen, BadManifest, Begins, IsLost, IsNoted, IsReady, IsRefused, MayNote, NoFolder, NoManifest, NoRoom, NoTables, NotAwaited, NotBound, NotNoted, OfFolder, OnlyReadsSince, OpensTables, RefusesTables, ServesFolder, ServesIf, TellsLost, lost_front, manifest_path, ready_line}
+use Rattle.serve_core.specs.Serve.{AllAnswered, AnswersRequests, AreOpen, BadManifest, Begins, IsLost, IsNoted, IsReady, IsRefused, MayNote, NoFolder, NoManifest, NoRoom, NoTables, NotAwaited, NotBound, NotNoted, OfFolder, OpensTables, RefusesTables, ServesFolder, ServesIf, TellsLost, lost_front, manifest_path, paths_named, ready_line}
 use Rattle.serve_core.specs.declared.refusals.Unbound.{Unbound}
 use Rattle.serve_core.specs.declared.task.Serving.{Serving}
 
@@ -119,31 +120,36 @@ module _ {T P F K S L : Type 0} (o : Outside T P F K S L) where
     (Wrote Output text ∷ Flushed Output ∷ [], Some 0, (refl, refl), AtWrite [] text (Flushed Output ∷ []) refl p.2.0 (p.2.1 ∙ ap (λ (x : List ℕ). Wrote Output (take p.2.0 x) ∷ Refused Output ∷ []) same)),
   )
 
-  -- ---- a folder that is served
+-- ---- a folder that is served
 
-  pub no_room : (a b : T) (r : Result ℕ WriteFault) → AddsSome o a b (Performs (Prints (refused_memory ∷ []) 1) r) → ServesFolder o None a b r
+module _ {T P F K S L : Type 0} (o : Outside T P F K S L) (t : Serve) (folder : Folder) where
+  pub no_room : (a b : T) (r : Result ℕ WriteFault) → AddsSome o a b (Performs (Prints (refused_memory ∷ []) 1) r) → ServesFolder o t folder None a b r
   no_room a b r p = NotAwaited (then_does o a a b [] (Prints (refused_memory ∷ []) 1) (Begins None) r (λ events is h. NoRoom refl h) (adds_none o a) p)
 
-  pub not_bound : (a b : T) (u : Unbound) (refused : Refusal) (r : Result ℕ WriteFault) → refused ≡ refusal_for u → AddsSome o a b (Performs (Prints (refusal_words refused ∷ []) 1) r) → ServesFolder o (Some u) a b r
+  pub not_bound : (a b : T) (u : Unbound) (refused : Refusal) (r : Result ℕ WriteFault) → refused ≡ refusal_for u → AddsSome o a b (Performs (Prints (refusal_words refused ∷ []) 1) r) → ServesFolder o t folder (Some u) a b r
   not_bound a b u refused r is p =
       NotAwaited (then_does o a a b [] (Prints (refusal_words refused ∷ []) 1) (Begins (Some u)) r (λ events status h. NotBound u refl (subst (λ (x : Refusal). Prints (refusal_words x ∷ []) 1 events status) is h)) (adds_none o a) p)
 
-  pub not_out : (a b : T) (text address : List ℕ) (fault : WriteFault) → text ≡ ready_line address → AddsSome o a b (Performs (GoesOut text) (Err fault)) → ServesFolder o None a b (Err fault)
+  pub not_out : (a b : T) (text address : List ℕ) (fault : WriteFault) → text ≡ ready_line address → AddsSome o a b (Performs (GoesOut text) (Err fault)) → ServesFolder o t folder None a b (Err fault)
   not_out a b text address fault is (events, p, (all, status, whole, cut)) =
       NotAwaited (events, p, (all, None, IsReady address refl (whole.0 ∙ ap (λ (x : List ℕ). Wrote Output x ∷ Flushed Output ∷ []) is) refl, cut))
 
   out_as : (a b : T) (text address : List ℕ) (status : ℕ) → text ≡ ready_line address → AddsSome o a b (Performs (GoesOut text) (Ok status)) → Adds o a b (Wrote Output (ready_line address) ∷ Flushed Output ∷ [])
   out_as a b text address status is p = subst (λ (e : List Event). Adds o a b e) (p.2.0 ∙ ap (λ (x : List ℕ). Wrote Output x ∷ Flushed Output ∷ []) is) p.1
 
-  pub all_answered : (a b c : T) (text address : List ℕ) (status : ℕ) → text ≡ ready_line address → AddsSome o a b (Performs (GoesOut text) (Ok status)) → OnlyReadsSince o c text → ServesFolder o None a c (Ok 0)
-  all_answered a b c text address status is p since = AllAnswered address b refl (out_as a b text address status is p) (subst (OnlyReadsSince o c) is since) refl
+  by_words : (a b : T) (games : Option GamePaths) → games ≡ paths_named t → AddsSome o a b (AnswersRequests o t.log folder games) → AddsSome o a b (AnswersRequests o t.log folder (paths_named t))
+  by_words a b games named p = subst (λ (g : Option GamePaths). AddsSome o a b (AnswersRequests o t.log folder g)) named p
 
-  pub is_lost : (a b c d : T) (text address : List ℕ) (status : ℕ) (u : Unbound) (r : Result ℕ WriteFault) → text ≡ ready_line address → AddsSome o a b (Performs (GoesOut text) (Ok status)) → OnlyReadsSince o c text
-      → AddsSome o c d (Performs (TellsLost u) r) → ServesFolder o None a d r
-  is_lost a b c d text address status u r is p since q = IsLost address b c u refl (out_as a b text address status is p) (subst (OnlyReadsSince o c) is since) q
+  pub all_answered : (a b c : T) (games : Option GamePaths) (text address : List ℕ) (status : ℕ) → games ≡ paths_named t → text ≡ ready_line address → AddsSome o a b (Performs (GoesOut text) (Ok status)) → AddsSome o b c (AnswersRequests o t.log folder games) → ServesFolder o t folder None a c (Ok 0)
+  all_answered a b c games text address status named is p answers = AllAnswered address b refl (out_as a b text address status is p) (by_words b c games named answers) refl
 
-  -- ---- notes
+  pub is_lost : (a b c d : T) (games : Option GamePaths) (text address : List ℕ) (status : ℕ) (u : Unbound) (r : Result ℕ WriteFault) → games ≡ paths_named t → text ≡ ready_line address → AddsSome o a b (Performs (GoesOut text) (Ok status)) → AddsSome o b c (AnswersRequests o t.log folder games)
+      → AddsSome o c d (Performs (TellsLost u) r) → ServesFolder o t folder None a d r
+  is_lost a b c d games text address status u r named is p answers q = IsLost address b c u refl (out_as a b text address status is p) (by_words b c games named answers) q
 
+-- ---- notes
+
+module _ {T P F K S L : Type 0} (o : Outside T P F K S L) where
   pub noted_so : (a b : T) (front line why : List ℕ) → line ≡ front ++ why → Adds o a b (Noted line ∷ []) → AddsSome o a b (MayNote front)
   noted_so a b front line why is p = (Noted line ∷ [], p, IsNoted why (ap (λ (l : List ℕ). Noted l ∷ []) is))
 

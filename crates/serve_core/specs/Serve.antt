@@ -2,14 +2,17 @@
 -- are answered by the tables of a folder and by folders of games, and what happens outside meanwhile (this project's own). What is answered
 -- to a request is the contract of http_answer. Folders of games are read where a request asks for it. Sockets of HTTP are no part of what
 -- happens here.
-use Rattle.std.specs.Prelude.{◌≡◌, ◌++◌, ℕ, List, [], ◌∷◌, Option, Some, None, Result, Ok, Err, IfSome, codes, option_map}
+use Rattle.std.specs.Prelude.{◌≡◌, ◌++◌, ℕ, Bool, List, [], ◌∷◌, Option, Some, None, Result, Ok, Err, codes, option_map}
 use Rattle.answer_parts.specs.Lines.{refusal_words}
 use Rattle.answer_parts.specs.Printing.{Performs, Prints, printed}
 use Rattle.answer_parts.specs.Refusals.{unread_refusal}
 use Rattle.answer_parts.specs.declared.answers.refusals.Refusal.{Refusal}
 use Rattle.answer_parts.specs.declared.answers.refusals.Refusal.TheVariants as refusal
 use Rattle.command_line.specs.declared.commands.serve.Serve.{Serve}
-use Rattle.game_reports.specs.Readings.{AreReadings}
+use Rattle.http.specs.declared.request.Request.{Request}
+use Rattle.http_answer.specs.Reads.{GamePaths, ReadsForRequest}
+use Rattle.http_server.specs.Exchange.{Call}
+use Rattle.http_server.specs.declared.response.Response.{Response}
 use Rattle.line_teller.specs.ToldLines.{refused_memory}
 use Rattle.move_msg.specs.TextLines.{ended}
 use Rattle.move_msg.specs.ToldBy.{told_by}
@@ -25,6 +28,7 @@ use Rattle.timeline.specs.Events.{Event, Flushed, Noted, Wrote}
 use Rattle.timeline.specs.Outsides.{Adds, AddsSome, Outside}
 use Rattle.timeline.specs.declared.stream.Stream.TheVariants.{Output}
 use Rattle.serve_core.specs.declared.refusals.Unbound.{Unbound}
+use Rattle.serve_core.specs.Logging.{NotesRequest, request_line}
 use Rattle.serve_core.specs.Refusals.{refusal_for}
 
 -- ---- lines
@@ -76,10 +80,24 @@ pub data Begins (why : Option Unbound) (events : List Event) (status : Option �
 
 -- ---- while they are
 
--- Where events are recorded, they end with this text, which was written and went out, and then folders were listed, files were read or looked
--- for, and lines were noted, and nothing else. What came before isn't said.
-abbrev pub OnlyReadsSince : {T P F K S L : Type 0} → Outside T P F K S L → T → List ℕ → Type 0
-OnlyReadsSince o t text = IfSome (o.events t) (λ all. (before : List Event) × (more : List Event) × (all ≡ before ++ (Wrote Output text ∷ Flushed Output ∷ more)) × AreReadings more)
+-- what is read for a request, and then its note
+abbrev pub AnswersCall : {T P F K S L : Type 0} → Outside T P F K S L → Bool → Folder → Option GamePaths → Request (List ℕ) → Response → List Event → Type 0
+AnswersCall o is_logged tables games request r events =
+    (reading noting : List Event) × ReadsForRequest o tables games request reading × NotesRequest is_logged (request_line request r) noting × (events ≡ reading ++ noting)
+
+-- so it is of each of these calls, one after another, and nothing else comes
+abbrev pub AnswersCalls : {T P F K S L : Type 0} → Outside T P F K S L → Bool → Folder → Option GamePaths → List Call → List Event → Type 0
+AnswersCalls o is_logged tables games [] events = events ≡ []
+AnswersCalls o is_logged tables games (c ∷ calls) events =
+    (one rest : List Event) × AnswersCall o is_logged tables games c.0 c.1 one × AnswersCalls o is_logged tables games calls rest × (events ≡ one ++ rest)
+
+-- of some calls
+abbrev pub AnswersRequests : {T P F K S L : Type 0} → Outside T P F K S L → Bool → Folder → Option GamePaths → List Event → Type 0
+AnswersRequests o is_logged tables games events = (calls : List Call) × AnswersCalls o is_logged tables games calls events
+
+-- the folders of games that the words name
+abbrev pub paths_named : Serve → Option GamePaths
+paths_named t = option_map (λ games. record { games = games.now; other = option_map (λ s. s.now) t.other }) t.games
 
 -- ---- after that
 
@@ -91,17 +109,17 @@ TellsLost u events status = (noting : List Event) × MayNote lost_front noting �
 
 -- With an open folder, from one moment to a later one: no request is awaited; or the address goes out, and then requests are answered, in the
 -- end as many as were to be (which is no part of this), or they can't be awaited any more.
-pub data ServesFolder {T P F K S L : Type 0} (o : Outside T P F K S L) (why : Option Unbound) (before after : T) (r : Result ℕ WriteFault) : Type 0 where
-  NotAwaited : AddsSome o before after (Performs (Begins why) r) → ServesFolder o why before after r
-  AllAnswered : (address : List ℕ) (ready : T) → why ≡ None → Adds o before ready (Wrote Output (ready_line address) ∷ Flushed Output ∷ []) → OnlyReadsSince o after (ready_line address)
-      → r ≡ Ok 0 → ServesFolder o why before after r
+pub data ServesFolder {T P F K S L : Type 0} (o : Outside T P F K S L) (t : Serve) (folder : Folder) (why : Option Unbound) (before after : T) (r : Result ℕ WriteFault) : Type 0 where
+  NotAwaited : AddsSome o before after (Performs (Begins why) r) → ServesFolder o t folder why before after r
+  AllAnswered : (address : List ℕ) (ready : T) → why ≡ None → Adds o before ready (Wrote Output (ready_line address) ∷ Flushed Output ∷ [])
+      → AddsSome o ready after (AnswersRequests o t.log folder (paths_named t)) → r ≡ Ok 0 → ServesFolder o t folder why before after r
   IsLost : (address : List ℕ) (ready lost : T) (u : Unbound) → why ≡ None → Adds o before ready (Wrote Output (ready_line address) ∷ Flushed Output ∷ [])
-      → OnlyReadsSince o lost (ready_line address) → AddsSome o lost after (Performs (TellsLost u) r) → ServesFolder o why before after r
+      → AddsSome o ready lost (AnswersRequests o t.log folder (paths_named t)) → AddsSome o lost after (Performs (TellsLost u) r) → ServesFolder o t folder why before after r
 
 -- the tables are refused; or the folder is opened, and then it is served
 pub data ServesIf {T P F K S L : Type 0} (o : Outside T P F K S L) (t : Serve) (why : Option Unbound) (before after : T) (r : Result ℕ WriteFault) : Type 0 where
   IsRefused : AddsSome o before after (Performs (RefusesTables o.disk t) r) → ServesIf o t why before after r
-  OfFolder : (folder : Folder) (opened : T) → AddsSome o before opened (OpensTables o.disk t (Ok folder)) → ServesFolder o why opened after r → ServesIf o t why before after r
+  OfFolder : (folder : Folder) (opened : T) → AddsSome o before opened (OpensTables o.disk t (Ok folder)) → ServesFolder o t folder why opened after r → ServesIf o t why before after r
 
 -- that an address isn't bound is noted
 abbrev pub NotesUnbound : List ℕ → Option Unbound → List Event → Type 0

@@ -1,11 +1,12 @@
 //! Requests that are answered over the streams of a listener, by a service over a timeline.
 
-ghost use Rattle.std.specs.Prelude.{◌≡◌, string_bytes};
+ghost use Rattle.std.specs.Prelude.{◌≡◌};
 ghost use Rattle.http_answer.specs.Games.{AreOfOne};
+ghost use Rattle.http_answer.specs.Reads.{paths_of};
 ghost use Rattle.http_loop.specs.Servers.{ServesCalls};
 ghost use Rattle.serve_core.specs.Answering.{AnswersOne};
 ghost use Rattle.serve_core.specs.Logging.{NotesRequest, request_line};
-ghost use Rattle.serve_core.specs.Serve.{OnlyReadsSince};
+ghost use Rattle.serve_core.specs.Serve.{AnswersRequests};
 ghost use Rattle.serve_core.specs.Streams.{RoutesOver};
 ghost use Rattle.timeline.specs.Outsides.{AddsSome};
 
@@ -23,11 +24,9 @@ use timeline::System;
 
 /// How requests are answered.
 #[derive(Clone, Copy)]
-pub struct Asked<'r> {
+pub struct Asked {
     /// Where memory for the lines of a log comes from.
     pub alloc: Global,
-    /// The line that went out before.
-    pub ready: &'r str,
     /// Whether a line of each request is noted.
     pub is_logged: bool,
     /// How many of them are answered.
@@ -36,31 +35,31 @@ pub struct Asked<'r> {
 
 /// A service over a timeline, of which a line of each request is noted, if they are logged. Its requests are counted.
 ///
-/// Contracts see which timeline it has, and the folders that requests are answered by.
+/// Contracts see which timeline it has, with its value at the moment, and the folders that requests are answered by.
 #[derive(Drop)]
-pub struct Answering<'a, 'r, 's, 't, S: System, C: Times> {
-    asked: Asked<'a>,
+pub struct Answering<'r, 's, 't, S: System, C: Times> {
+    asked: Asked,
     system: &'r S,
     timeline: &'t mut S::Timeline,
     router: Router<'r, 's, S, C>,
     answered: u64,
 }
 
-impl<'a, 'r, 's, 't, S: System, C: Times> Model for Answering<'a, 'r, 's, 't, S, C> {
+impl<'r, 's, 't, S: System, C: Times> Model for Answering<'r, 's, 't, S, C> {
     ghost use Rattle.serve_core.specs.Answering.{AnsweringView, IsGrounded};
 
-    ghost Value = { AnsweringView S C };
+    ghost Value = { AnsweringView S C S.Timeline };
 
-    ghost view = { λ a. record { ground = record { timeline = a.timeline.ghost_name; system = a.system.now; ready = a.asked.ready.now }; tables = a.router.answerer; games = a.router.games } };
+    ghost view = { λ a. record { ground = record { timeline = a.timeline.ghost_name; system = a.system.now; is_logged = a.asked.is_logged }; now = a.timeline.now; tables = a.router.answerer; games = a.router.games } };
 
-    ghost invariant = { λ a. IsGrounded S.outside a.system.now a.router.answerer a.router.games a.timeline.now a.asked.ready.now };
+    ghost invariant = { λ a. IsGrounded a.system.now a.router.answerer a.router.games };
 }
 
 /// Notes the line of a request and its response, if requests are logged. One for which memory is refused is left out.
 fn note_request<S: System>(
     system: &S,
     timeline: &mut S::Timeline,
-    asked: &Asked<'_>,
+    asked: &Asked,
     request: &Request<Bytes>,
     response: &Response,
 )
@@ -75,7 +74,7 @@ fn note_request<S: System>(
     }
 }
 
-impl<'a, 'r, 's, 't, S: System, C: Times> Service for Answering<'a, 'r, 's, 't, S, C> {
+impl<'r, 's, 't, S: System, C: Times> Service for Answering<'r, 's, 't, S, C> {
     ghost use Rattle.serve_core.specs.Answering.{AnswersOne};
 
     ghost answers = { AnswersOne S.outside C.says };
@@ -85,18 +84,14 @@ impl<'a, 'r, 's, 't, S: System, C: Times> Service for Answering<'a, 'r, 's, 't, 
         request: &Request<Bytes>,
         response: &mut Response,
     ) -> Result<(), AllocError> {
-        match self.router.answer(self.timeline, request, response) {
-            Ok(()) => {
-                self.answered = self.answered.saturating_add(1);
-                note_request(self.system, self.timeline, &self.asked, request, response);
-                Ok(())
-            }
-            Err(refused) => Err(refused),
-        }
+        self.router.answer(self.timeline, request, response);
+        self.answered = self.answered.saturating_add(1);
+        note_request(self.system, self.timeline, &self.asked, request, response);
+        Ok(())
     }
 }
 
-impl<'a, 'r, 's, 't, S: System, C: Times> Answering<'a, 'r, 's, 't, S, C> {
+impl<'r, 's, 't, S: System, C: Times> Answering<'r, 's, 't, S, C> {
     /// How many requests it has answered, at most 2^64 - 1.
     fn answered(&self) -> u64 {
         self.answered
@@ -105,7 +100,7 @@ impl<'a, 'r, 's, 't, S: System, C: Times> Answering<'a, 'r, 's, 't, S, C> {
     /// Gives its timeline back.
     fn end(self) -> &'t mut S::Timeline
         ensures same { result.ghost_name ≡ self.entry.ground.timeline }
-        ensures since { OnlyReadsSince (S.outside self.entry.ground.system) result.now self.entry.ground.ready }
+        ensures now { result.now ≡ self.entry.now }
     {
         let Answering {
             asked: _,
@@ -121,7 +116,7 @@ impl<'a, 'r, 's, 't, S: System, C: Times> Answering<'a, 'r, 's, 't, S, C> {
 /// Has so many requests answered. The error comes where the listener can't wait, or memory is refused.
 fn answer_rounds<C: Clock, L: Listener + Drop, S: System, T: Times>(
     server: &mut Server<'_, C, L>,
-    service: &mut Answering<'_, '_, '_, '_, S, T>,
+    service: &mut Answering<'_, '_, '_, S, T>,
     requests: u64,
 ) -> io::Result<()>
     ensures { ServesCalls L.streams L.Reader.remaining L.Writer.contents (AnswersOne S.outside T.says) service.old service.new server.old server.new }
@@ -145,13 +140,12 @@ pub fn answer_requests<'r, C: Clock, L: Listener + Drop, S: System, T: Times>(
     router: Router<'r, '_, S, T>,
     system: &'r S,
     timeline: &mut S::Timeline,
-    asked: Asked<'_>,
+    asked: Asked,
 ) -> io::Result<()>
     requires one { AreOfOne router.answerer router.games }
     requires same { system.now ≡ router.answerer.disk.system.now }
-    requires ready { OnlyReadsSince (S.outside system.now) timeline.old asked.ready.now }
     ensures replied { RoutesOver S.outside T.says router.entry.answerer router.entry.games L.streams L.Reader.remaining L.Writer.contents server.old server.new }
-    ensures since { OnlyReadsSince (S.outside system.now) timeline.new asked.entry.ready.now }
+    ensures made { AddsSome (S.outside system.now) timeline.old timeline.new (AnswersRequests (S.outside system.now) asked.is_logged router.entry.answerer.folder (paths_of router.entry.games)) }
 {
     let mut service = Answering {
         asked,

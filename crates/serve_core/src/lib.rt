@@ -12,20 +12,20 @@
 //! - CLAIM: `serve`, clauses `made`, `cause`: it is noted where no address is bound; then the manifest is read, if one is named, and the folder of
 //!   tables is listed, once. A manifest that can't be read or is malformed, a folder that can't be read, an address that can't be bound and
 //!   refused memory, the first in this order is written in one line, with status 1; else the line is `ready` and the address, which goes
-//!   out (`Serves`). When requests are answered, what is recorded ends with that line, its flush, and then listings, readings and notes
-//!   alone (`OnlyReadsSince`); in the end why the port was lost, or memory for it, is noted and written. An error comes only where a write
-//!   might be refused.
+//!   out (`Serves`). Then come, of some requests one after another, what is read for each and its note, and nothing else
+//!   (`AnswersRequests`); in the end why the port was lost, or memory for it, is noted and written. An error comes only where a write might
+//!   be refused.
 //! - CLAIM: `serve_task`, clause `replied`: over a listener whose streams are known each stream got the replies to the requests that it
 //!   gave, by the folder of tables, the manifest and the folders of games that the words name, in their order, whatever the others gave;
 //!   and all are closed (`RepliesToTask`). Where no request is read the status isn't 0.
-//! - CLAIM: `answer_requests`, clauses `replied`, `since`: the same, by the folders of a router (`RoutesOver`, `IsRepliedOver`); and what is
-//!   recorded ends with the line `ready`, its flush, and readings and notes alone, also of requests to which memory was refused.
+//! - CLAIM: `answer_requests`, clauses `replied`, `made`: the same, by the folders of a router (`RoutesOver`, `IsRepliedOver`); and of some
+//!   requests, one after another, what is read for each and its note come, and nothing else (`AnswersRequests`).
 //! - CLAIM: `Pages::open`, clause `opened`: the server has the limits of `HasLimits`, and has served no stream.
-//! - CLAIM: `Answering`, clause `answers`: a call is answered by `Router::answer`; the private `note_request`: where requests are logged the
-//!   line `request_line` of the request is noted, or is left out, and no other one (`NotesRequest`).
+//! - CLAIM: `Answering`, clause `answers`: a call is answered by `Router::answer`. What is read for the request comes, and then its note:
+//!   where requests are logged the line `request_line`, or none where memory is refused for it, and else none (`AnswersOne`,
+//!   `NotesRequest`). A call never fails.
 //!
-//! Not said: what happened before the last line `ready` that is recorded, when requests are answered; that `call` notes by `note_request`
-//! alone: a toolchain's `Service` leaves itself equal where a call fails, so it can show nothing of its timeline.
+//! Not said: that the requests of `made` are those that the streams gave, and how many they are.
 #![tactic(auto)]
 
 mod answering;

@@ -1,13 +1,14 @@
 //! Requests that are answered over the streams of a listener, as the words of `serve` say.
 
-ghost use Rattle.std.specs.Prelude.{◌≡◌, ◌++◌, ℕ, List, None, IfOk, OnErr, OnOk, string_bytes};
+ghost use Rattle.std.specs.Prelude.{◌≡◌, ◌++◌, ℕ, List, None, IfOk, OnErr, string_bytes};
 ghost use Rattle.std.specs.IoError.{error_kind};
 ghost use Rattle.answer_parts.specs.Printing.{OutputFails, Performs};
 ghost use Rattle.http_answer.specs.Games.{AreOfOne};
+ghost use Rattle.http_answer.specs.Reads.{paths_of};
 ghost use Rattle.serve_core.specs.GamesNamed.{games_for};
 ghost use Rattle.serve_core.specs.Inside.{GoesOut, ReadsSound};
 ghost use Rattle.serve_core.specs.Refusals.{unbound_in, unbound_of};
-ghost use Rattle.serve_core.specs.Serve.{MayNote, OnlyReadsSince, ServesFolder, ServesIf, TellsLost, lost_front, ready_line};
+ghost use Rattle.serve_core.specs.Serve.{MayNote, ServesFolder, ServesIf, TellsLost, lost_front, paths_named, ready_line};
 ghost use Rattle.serve_core.specs.Tasks.{IfBound, MayRoute, MayServe, RepliesToTask};
 ghost use Rattle.system_io.specs.Reading.{read_fault_of};
 ghost use Rattle.timeline.specs.Outsides.{AddsSome};
@@ -89,7 +90,6 @@ fn ready_text(alloc: Global, own: SocketAddr) -> Result<String, AllocError>
 /// Writes a text, and lets it go out.
 fn put_out<S: System>(system: &S, timeline: &mut S::Timeline, text: &str) -> Result<u8, WriteFault>
     ensures made { AddsSome (S.outside system.now) timeline.old timeline.new (Performs (GoesOut text.now) result) }
-    ensures since { OnOk result (OnlyReadsSince (S.outside system.now) timeline.new text.now) }
     ensures cause { OnErr result (OutputFails (S.outside system.now)) }
 {
     match system.write(timeline, Stream::Output, text.as_bytes()) {
@@ -145,21 +145,20 @@ fn serve_at<'r, C: Clock, L: Listener + Drop, T: Times, S: System>(
 ) -> Result<u8, WriteFault>
     requires one { AreOfOne router.answerer router.games }
     requires same { by.now.system.now ≡ router.answerer.disk.system.now }
-    ensures made { ServesFolder (S.outside by.now.system.now) None timeline.old timeline.new result }
+    requires named { paths_of router.games ≡ paths_named task.now }
+    ensures made { ServesFolder (S.outside by.now.system.now) task.now router.entry.answerer.folder None timeline.old timeline.new result }
     ensures cause { OnErr result (OutputFails (S.outside by.now.system.now)) }
     ensures replied { MayRoute S.outside T.says L.streams L.Reader.remaining L.Writer.contents router.entry.answerer router.entry.games bound.old bound.new result }
 {
     let Ok(text) = ready_text(by.alloc, bound.own) else {
         return print_refusal(by.system, timeline, Refusal::Memory);
     };
-    let ready = text.as_str();
-    match put_out(by.system, timeline, ready) {
+    match put_out(by.system, timeline, text.as_str()) {
         Ok(_) => {}
         Err(fault) => return Err(fault),
     }
     let asked = Asked {
         alloc: by.alloc,
-        ready,
         is_logged: task.log,
         requests: task.requests,
     };
@@ -178,7 +177,7 @@ fn serve_folder<'r, C: Clock, L: Listener + Drop, T: Times, S: System>(
     bound: &mut Bound<'_, C, L>,
 ) -> Result<u8, WriteFault>
     requires { folder.disk.system.now ≡ by.now.system.now }
-    ensures made { ServesFolder (S.outside by.now.system.now) None timeline.old timeline.new result }
+    ensures made { ServesFolder (S.outside by.now.system.now) task.now folder.entry.folder None timeline.old timeline.new result }
     ensures cause { OnErr result (OutputFails (S.outside by.now.system.now)) }
     ensures replied { MayServe S.outside T.says L.streams L.Reader.remaining L.Writer.contents by.now task.now folder.entry bound.old bound.new result }
 {
@@ -201,7 +200,7 @@ fn serve_folder_if<'r, C: Clock, L: Listener + Drop, T: Times, S: System>(
     bound: &mut Result<Bound<'_, C, L>, Unbound>,
 ) -> Result<u8, WriteFault>
     requires { folder.disk.system.now ≡ by.now.system.now }
-    ensures made { ServesFolder (S.outside by.now.system.now) (unbound_in bound.old) timeline.old timeline.new result }
+    ensures made { ServesFolder (S.outside by.now.system.now) task.now folder.entry.folder (unbound_in bound.old) timeline.old timeline.new result }
     ensures cause { OnErr result (OutputFails (S.outside by.now.system.now)) }
     ensures replied { IfBound S.outside T.says L.streams L.Reader.remaining L.Writer.contents by.now task.now folder.entry bound.old bound.new result }
 {

@@ -5,7 +5,7 @@ use Rattle.http_answer.specs.Files.{files_of}
 use Rattle.http_answer.proofs.plies.add_moves.Goals as goal
 
 pub loop-m-init : goal.loop-m-init
-loop-m-init g c = record { so_far = at_start _ _ _ _ _; same = refl; made = no_reads g.S.System.outside _ _ }
+loop-m-init g c = record { so_far = at_start _ _ _ _ _; same = refl; made = no_reads g.S.System.outside _ _ _ }
 
 pub loop-m-preserved : goal.loop-m-preserved
 loop-m-preserved g c =

@@ -1,14 +1,14 @@
 use Rattle.std.proofs.Common.{◌≡◌, length}
-use Rattle.game_reports.specs.Readings.{OnlyReads}
 use Rattle.http_answer.proofs.PlyLaws.{SoFar}
 use Rattle.http_answer.specs.Files.{files_of}
+use Rattle.http_answer.specs.Reads.{ReadsTableFiles}
 use Rattle.http_answer.proofs.plies.add_moves.Given as goal
 
 abbrev pub invariant-loop-m : goal.invariant-loop-m
 invariant-loop-m g l = record {
   so_far : SoFar ((files_of g.S.System.outside) l.fn.answerer.disk) l.fn.answerer.folder l.fn.start l.fn.moves l.fn.text l.position l.rest l.text;
   same : l.answerer ≡ l.fn.answerer;
-  made : OnlyReads (g.S.System.outside l.fn.answerer.disk.system.now) l.fn.timeline l.timeline;
+  made : ReadsTableFiles g.S.System.outside l.fn.answerer l.fn.timeline l.timeline;
 }
 
 abbrev pub decreases-loop-m : goal.decreases-loop-m

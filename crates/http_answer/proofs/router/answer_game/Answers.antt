@@ -1,7 +1,7 @@
 use Rattle.std.proofs.Common.{refl}
 use Rattle.std.proofs.lemmas.Result.{on_ok_weaker}
 use Rattle.http_answer.specs.Games.{Lacking, Unknown}
-use Rattle.http_answer.proofs.OpenReadLaws.{games_then, reads_on}
+use Rattle.http_answer.proofs.ReadLaws.{game_alone, game_then}
 use Rattle.http_answer.proofs.RouterLaws.{game_found}
 use Rattle.http_answer.proofs.router.answer_game.Goals as goal
 
@@ -22,13 +22,13 @@ returns-in-Err-clause-game g c =
     on_ok_weaker c.fill_lacked.result (λ has. Lacking (c.in-Err.lacked, lacks, has)) c.fill_lacked.ensures
 
 pub returns-in-Ok-Some-clause-made : goal.returns-in-Ok-Some-clause-made
-returns-in-Ok-Some-clause-made g c = games_then g.S.System.outside _ c.args.answerer.now c.args.answerer.now _ _ _ c.requires.one refl c.game.ensures.made c.fill_game.ensures.made
+returns-in-Ok-Some-clause-made g c = game_then g.S.System.outside _ c.args.answerer.now c.args.answerer.now _ _ _ _ c.requires.one refl c.game.ensures.made c.fill_game.ensures.made
 
 pub returns-in-Ok-None-clause-made : goal.returns-in-Ok-None-clause-made
-returns-in-Ok-None-clause-made g c = reads_on g.S.System.outside _ _ _ _ c.requires.one c.game.ensures.made
+returns-in-Ok-None-clause-made g c = game_alone g.S.System.outside _ _ _ _ _ c.requires.one c.game.ensures.made
 
 pub returns-in-Err-clause-made : goal.returns-in-Err-clause-made
-returns-in-Err-clause-made g c = reads_on g.S.System.outside _ _ _ _ c.requires.one c.game.ensures.made
+returns-in-Err-clause-made g c = game_alone g.S.System.outside _ _ _ _ _ c.requires.one c.game.ensures.made
 
 pub returns-in_err-found-clause-made : goal.returns-in_err-found-clause-made
-returns-in_err-found-clause-made g c = reads_on g.S.System.outside _ _ _ _ c.requires.one c.game.ensures.made
+returns-in_err-found-clause-made g c = game_alone g.S.System.outside _ _ _ _ _ c.requires.one c.game.ensures.made

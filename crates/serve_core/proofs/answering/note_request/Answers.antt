@@ -1,5 +1,5 @@
 use Rattle.std.proofs.Common.{◌∙◌}
-use Rattle.serve_core.proofs.SinceLaws.{nothing_noted, request_noted}
+use Rattle.serve_core.proofs.CallLaws.{nothing_noted, request_noted}
 use Rattle.serve_core.proofs.answering.note_request.Goals as goal
 
 pub returns-in-Err : goal.returns-in-Err

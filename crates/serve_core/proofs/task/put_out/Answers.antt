@@ -1,16 +1,10 @@
 use Rattle.serve_core.proofs.ServeLaws.{has_gone, is_cut, is_stuck, out_whole}
-use Rattle.serve_core.proofs.SinceLaws.{since_out}
 use Rattle.serve_core.proofs.task.put_out.Goals as goal
 
 pub returns-in-Ok-flush-clause-made : goal.returns-in-Ok-flush-clause-made
 returns-in-Ok-flush-clause-made g c =
     let o = g.S.System.outside c.args.system.now in
     has_gone o _ _ c.args.text.now (out_whole o _ _ _ c.as_bytes.result.now c.args.text.now c.as_bytes.ensures.value c.in-Ok.ensures.made c.in-Ok-flush.ensures.made)
-
-pub returns-in-Ok-flush-clause-since : goal.returns-in-Ok-flush-clause-since
-returns-in-Ok-flush-clause-since g c =
-    let o = g.S.System.outside c.args.system.now in
-    since_out o _ _ c.args.text.now (out_whole o _ _ _ c.as_bytes.result.now c.args.text.now c.as_bytes.ensures.value c.in-Ok.ensures.made c.in-Ok-flush.ensures.made)
 
 pub returns-in-Err-flush-clause-made : goal.returns-in-Err-flush-clause-made
 returns-in-Err-flush-clause-made g c =

@@ -10,7 +10,7 @@ pub returns-in-Ok-clause-replied : goal.returns-in-Ok-clause-replied
 returns-in-Ok-clause-replied g c = rw c.in-Ok.is c.serve_folder.ensures.replied
 
 pub returns-in-Err-clause-made : goal.returns-in-Err-clause-made
-returns-in-Err-clause-made g c = rw c.in-Err.is (not_bound (g.S.System.outside c.args.by.now.system.now) _ _ c.in-Err.unbound c.refusal.result _ c.refusal.ensures c.print_refusal.ensures.made)
+returns-in-Err-clause-made g c = rw c.in-Err.is (not_bound (g.S.System.outside c.args.by.now.system.now) _ _ _ _ c.in-Err.unbound c.refusal.result _ c.refusal.ensures c.print_refusal.ensures.made)
 
 pub returns-in-Err-clause-replied : goal.returns-in-Err-clause-replied
 returns-in-Err-clause-replied g c = rw c.in-Err.is (one_is_refused (g.S.System.outside c.args.by.now.system.now) _ _ (refusal_words c.refusal.result ∷ []) c.print_refusal.result c.print_refusal.ensures.made)

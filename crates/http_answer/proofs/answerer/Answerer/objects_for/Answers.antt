@@ -5,7 +5,7 @@ use Rattle.http_answer.specs.Files.{files_of}
 use Rattle.http_answer.proofs.answerer.Answerer.objects_for.Goals as goal
 
 pub loop-line-init : goal.loop-line-init
-loop-line-init g c = record { so_far = subst (AnsweredSoFar _ _ _ _) (sym c.new-objects.ensures.items) (none_answered _ _ _); same = refl; made = no_reads g.S.System.outside _ _ }
+loop-line-init g c = record { so_far = subst (AnsweredSoFar _ _ _ _) (sym c.new-objects.ensures.items) (none_answered _ _ _); same = refl; made = no_reads g.S.System.outside _ _ _ }
 
 pub loop-line-preserved : goal.loop-line-preserved
 loop-line-preserved g c =

@@ -1,5 +1,5 @@
 use Rattle.http_answer.specs.Games.{games_on}
-use Rattle.http_answer.proofs.OpenReadLaws.{game_at}
+use Rattle.http_answer.proofs.ReadLaws.{game_at}
 use Rattle.http_answer.proofs.ReportLaws.{found_so, lacks_game}
 use Rattle.http_answer.proofs.games.GameFolders.game.Goals as goal
 

@@ -1,5 +1,5 @@
 use Rattle.http_answer.specs.Games.{games_on}
-use Rattle.http_answer.proofs.OpenReadLaws.{report_at}
+use Rattle.http_answer.proofs.ReadLaws.{report_at}
 use Rattle.http_answer.proofs.ReportLaws.{lacks_report, read_so}
 use Rattle.http_answer.proofs.games.GameFolders.report.Goals as goal
 

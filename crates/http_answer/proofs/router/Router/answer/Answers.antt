@@ -1,35 +1,17 @@
-use Rattle.std.proofs.Common.{◌∙◌, ℕ, List, Some, ap, refl, subst, sym}
-use Rattle.std.proofs.lemmas.Result.{on_err_weaker, on_ok_weaker}
-use Rattle.http_uri.specs.Uri.{uri_path}
-use Rattle.http_answer.specs.Games.{AsksOfGames, IsByMethod, MayAnswer, OfGames, OfTables, places_of}
-use Rattle.http_answer.specs.Inside.{asked_of_games}
-use Rattle.http_answer.proofs.RouterLaws.{by_action_stays, elsewhere, router_same}
+use Rattle.std.proofs.Common.{ap}
+use Rattle.http_answer.specs.Games.{ByFolders, ForWantOfMemory, places_of}
 use Rattle.http_answer.proofs.router.Router.answer.Goals as goal
 
-pub returns-in-Some-topic_at-clause-answered : goal.returns-in-Some-topic_at-clause-answered
-returns-in-Some-topic_at-clause-answered g c =
-    let a = asked_of_games c.in-Some-topic_at.topic in
-    let was = c.in-Some.games in
-    let now = c.answer_by_method.new.games in
-    let asks = subst (λ (path : List ℕ). AsksOfGames path a) (c.path.ensures.value ∙ ap uri_path c.uri.ensures) c.in-Some-topic_at.ensures.some in
-    on_ok_weaker c.answer_by_method.result
-    (λ answered. record {
-      served = OfGames was now c.in-Some.is refl a asks (subst (λ (method : List ℕ). IsByMethod method (MayAnswer g.S.System.outside g.C.Times.says c.args.self.now.answerer a) was now c.answer_by_method.new.response) (c.as_str.ensures.value ∙ c.method.ensures) answered);
-      tables_stay = c.answer_by_method.ensures.same;
-      games_stay = ap Some (by_action_stays g.S.System.outside g.C.Times.says c.args.self.now.answerer was now c.answer_by_method.new.response _ a answered) ∙ sym (ap places_of c.in-Some.is);
-    })
-    c.answer_by_method.ensures.answer
+pub returns-in-Ok-clause-answered : goal.returns-in-Ok-clause-answered
+returns-in-Ok-clause-answered g c =
+    let routes = c.in-Ok.ensures.answered in
+    record { answered = ByFolders routes.served; tables_stay = routes.tables_stay; games_stay = routes.games_stay }
 
-pub returns-in-None-clause-answered : goal.returns-in-None-clause-answered
-returns-in-None-clause-answered g c =
-    on_ok_weaker c.answer-in-None.result
-    (λ reply. record {
-      served = OfTables (elsewhere c.args.self.now.games c.in-Some.games _ c.path.result.now c.in-Some.is (c.path.ensures.value ∙ ap uri_path c.uri.ensures) c.in-None.ensures.none) reply (sym c.in-Some.is);
-      tables_stay = c.answer-in-None.ensures.same;
-      games_stay = sym (ap places_of c.in-Some.is);
-    })
-    c.answer-in-None.ensures.replied
-
-pub returns-in-Some-topic_at-clause-same : goal.returns-in-Some-topic_at-clause-same
-returns-in-Some-topic_at-clause-same g c =
-    on_err_weaker c.answer_by_method.result (λ same. router_same c.args.self.now _ _ _ c.answer_by_method.ensures.same same c.in-Some.is) c.answer_by_method.ensures.same_games
+pub returns-in-Err-clause-answered : goal.returns-in-Err-clause-answered
+returns-in-Err-clause-answered g c =
+    let same = c.in-Err.ensures.same in
+    record {
+      answered = ForWantOfMemory c.fill_starved.ensures (ap (λ r. r.games) same);
+      tables_stay = ap (λ r. r.answerer) same;
+      games_stay = ap (λ r. places_of r.games) same;
+    }
