@@ -1,6 +1,6 @@
 -- The first verdict of a game is one that the board shows, where all of its moves are legal.
-use Rattle.std.proofs.Common.{◌≡◌, ◌∙◌, ◌+◌, ◌<◌, ◌≤◌, ℕ, Bool, true, false, cond, List, [], ◌∷◌, ◌++◌, length, take, drop, take-append-drop, get_or, Option, Some, None, refl, sym, ap, subst, arith}
-use Rattle.std.specs.Prelude.{IfSome, IsSome, Ok, Err, nat_le, option_and_then}
+use Rattle.std.proofs.Common.{◌≡◌, ◌∙◌, ◌+◌, ◌<◌, ℕ, Bool, true, false, cond, List, [], ◌∷◌, ◌++◌, length, take, drop, take-append-drop, get_or, Option, Some, None, refl, sym, ap, subst, arith}
+use Rattle.std.specs.Prelude.{IfSome, Ok, Err, nat_le, option_and_then}
 use Rattle.std.proofs.lemmas.Bool.{cond_both}
 use Rattle.std.proofs.lemmas.List.{take_all, take_more}
 use Rattle.board_core.specs.declared.moves.Move.{Move}
@@ -29,6 +29,7 @@ use Rattle.judge_core.proofs.Plies.{goes_on}
 use Rattle.relay_world.specs.Worlds.{Judged}
 use Rattle.source_core.specs.declared.report.Ruling.{Ruling}
 use Rattle.source_core.specs.Boards.{IsBelieved, IsMate, IsShown}
+use Rattle.theorems.proofs.Replying.{not_none}
 
 -- ---- tables tell of no mate
 
@@ -100,10 +101,6 @@ shown p v over e = subst (IsShown p) e (by_check (is_in_check p.men p.side) refl
     by_check false c = (no_move p over, λ check. let yes : is_in_check p.men p.side ≡ true = (Decides-in_check p.men p.side).1 check in cc)
 
 -- ---- the first verdict of a game
-
-not_none : (o : Option Parts) → IsSome o → o ≡ None → ⊥
-not_none None h e = cc
-not_none (Some p) h e = cc
 
 next_of : (moves : List Move) (k : ℕ) → k < length moves → (m : Move) × (take (k + 1) moves ≡ take k moves ++ m ∷ [])
 next_of [] k l = absurd (omega arith)

@@ -1,12 +1,12 @@
 -- A source to which the reports of the whole game come ends as the game does.
-use Rattle.std.proofs.Common.{◌≡◌, ◌∙◌, ◌⊎◌, ◌++◌, ◌+◌, ◌<◌, ◌≤◌, ℕ, Bool, List, [], ◌∷◌, append-nil, length, length-append, Option, Some, None, inl, inr, refl, sym, ap, subst, arith}
-use Rattle.std.specs.Prelude.{IfSome, Ok, Err, option_and_then}
+use Rattle.std.proofs.Common.{◌≡◌, ◌∙◌, ◌⊎◌, ◌++◌, ◌+◌, ◌≤◌, ℕ, Bool, List, [], ◌∷◌, append-nil, length, length-append, Option, Some, None, inl, inr, refl, sym, ap, subst, arith}
+use Rattle.std.specs.Prelude.{IfSome, Ok, option_and_then}
 use Rattle.board_core.specs.declared.moves.Move.{Move as Moves}
 use Rattle.board_core.specs.declared.parts.Parts.{Parts}
 use Rattle.board_core.specs.Moves.{Legal}
 use Rattle.board_core.specs.ComputedMoves.{position_after}
 use Rattle.board_core.proofs.ComputedMoves.{legal_position}
-use Rattle.judge_core.specs.Games.{IsFirst, position_after_all}
+use Rattle.judge_core.specs.Games.{position_after_all}
 use Rattle.judge_core.proofs.Plies.{goes_on, starts}
 use Rattle.move_msg.specs.declared.arbiter_id.ArbiterId.{ArbiterId}
 use Rattle.move_msg.specs.declared.arbiter_id.ArbiterId.TheVariants.{A, B}

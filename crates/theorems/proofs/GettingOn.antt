@@ -1,6 +1,6 @@
 -- Two hosts that take the moves of a game in order get on with it.
 use Rattle.std.proofs.Common.{◌≡◌, ◌∙◌, ℕ, ◌+◌, ◌<◌, ◌≤◌, Bool, true, false, cond, List, [], ◌∷◌, ◌++◌, length, min, Option, Some, None, zero, suc, inl, inr, refl, sym, ap, subst, arith}
-use Rattle.std.specs.Prelude.{◌⊎◌, ◌≢◌, IfSome, IsSome, Result, Ok, Err, is_ok, slice_get, slice_index}
+use Rattle.std.specs.Prelude.{◌⊎◌, ◌≢◌, Err, IfSome, IsSome, is_ok, slice_get, slice_index}
 use Rattle.std.proofs.lemmas.Bool.{and_from, cond-false, cond_both, eq-eqb}
 use Rattle.std.proofs.lemmas.Slice.Eq.{bytes_eq-Decides}
 use Rattle.board_core.specs.declared.moves.Move.{Move as Word}
@@ -18,7 +18,6 @@ use Rattle.arbiter_core.specs.declared.fault.DeliverFault.TheVariants as deliver
 use Rattle.arbiter_core.specs.declared.keeper.Keep.{Keep}
 use Rattle.arbiter_core.specs.declared.keeper.Keep.TheVariants.{Good, FailsOld, FailsNew}
 use Rattle.arbiter_core.specs.Keeping.{KeeperFacts}
-use Rattle.arbiter_core.proofs.Reach.{last_reached, reach_within}
 use Rattle.arbiter_core.specs.Setups.{rules_at}
 use Rattle.arbiter_core.specs.Views.{View, spelled_as}
 use Rattle.arbiter_core.specs.Recording.{Recorded, ReorderBuffer, last_ply, move_count, record_at}
@@ -42,9 +41,9 @@ use Rattle.relay_world.proofs.Steps.{Holds, IsSound, all_at, first_holds, right_
 use Rattle.relay_world.proofs.Whole.{at_last}
 use Rattle.theorems.specs.Nets.{NetStep, Site, SystemState, changed, first_net, sent_with, site_of}
 use Rattle.theorems.specs.Interleavings.{AnswersDatagram, AreWoven, AtA, AtB, Asks, Does, Ends, GivesFor, GivesIf, HostEvent, Interleaving, IsSiteOfLife, Step, deeds_a, deeds_b, first_run, if_up, later_runs, open_with}
-use Rattle.theorems.specs.Progress.{AreLegal, BothGetOn, GetsOn, HasSomeMoves, HasTold, HostsGetOn, IsTaken, IsWhole, TakesAll, TakesMove, TakesMoves}
+use Rattle.theorems.specs.Progress.{AreLegal, BothGetOn, GetsOn, HasTold, HostsGetOn, IsTaken, IsWhole, TakesAll, TakesMove, TakesMoves}
 use Rattle.theorems.proofs.Acking.{has_moves}
-use Rattle.theorems.proofs.Joining.{DeedsGo, RunGoes, RunsGo, all_go, deed_goes, none_left}
+use Rattle.theorems.proofs.Joining.{DeedsGo, RunGoes, RunsGo, all_go, deed_goes}
 use Rattle.theorems.proofs.Netting as netting
 use Rattle.theorems.proofs.Netting.{RunsAt, RunsSo, ShowsNet, deliver_is, running_hears, shows_at}
 use Rattle.theorems.proofs.Replying.{Reports, among_later, reports, tells_all, told_later}
@@ -410,7 +409,7 @@ takes_none : {K : Type 0} (game : Judged) (deeds : List (HostEvent K)) → Takes
 takes_none game [] = omega arith
 takes_none game (deed ∷ deeds) = inr (takes_none game deeds)
 
-module _ {K L : Type 0} (a : Keepers K) (b : Keepers L) (game : Judged) (some : HasSomeMoves game) (steps : List (Step K L)) (net : SystemState) (w : AreWoven a b game steps net) where
+module _ {K L : Type 0} (a : Keepers K) (b : Keepers L) (game : Judged) (short : length game.moves ≤ 4096) (steps : List (Step K L)) (net : SystemState) (w : AreWoven a b game steps net) where
   abbrev last : ℕ
   last = last_ply game.rules game.moves
 
@@ -425,17 +424,13 @@ module _ {K L : Type 0} (a : Keepers K) (b : Keepers L) (game : Judged) (some : 
   both_at n m take_a take_b =
       let x = all_go a game A (first_run (deeds_a steps)) (later_runs (deeds_a steps)) w.runs_a in
       let y = all_go b game B (first_run (deeds_b steps)) (later_runs (deeds_b steps)) w.runs_b in
-      let r = arrives a b game some.1 x.0 y.0 n m steps Fresh Fresh (first_net game) net (first_world game) 0 0 (at_first game) refl refl x.1 y.1 w.weaves take_a take_b (nothing_yet game A (first_world game)) (nothing_yet game B (first_world game)) in
+      let r = arrives a b game short x.0 y.0 n m steps Fresh Fresh (first_net game) net (first_world game) 0 0 (at_first game) refl refl x.1 y.1 w.weaves take_a take_b (nothing_yet game A (first_world game)) (nothing_yet game B (first_world game)) in
       record { world = r.world; at = r.at; far_a = r.far_a; far_b = r.far_b }
 
-  within : last ≤ length game.moves
-  within = reach_within game.rules game.moves last (last_reached game.rules game.moves)
-
   -- a side that is as far as the game goes has the record of the game
-  whole : (found : Option (List ℕ)) (kept : Option Recorded) → KeptIs game.stamp game.rules.delay found kept → IfSome kept (IsRecordOf game.rules game.moves) → min (length game.moves) last ≤ kept_count kept → IsSome kept → IsWhole game found
-  whole found None is held low here = cc
-  whole found (Some kept) is held low here =
-      subst (λ (x : Recorded). IsWritten game.stamp game.rules.delay x found) (at_last game.rules game.moves kept held (omega (arith, low, within))) is
+  whole : (found : Option (List ℕ)) (kept : Option Recorded) → KeptIs game.stamp game.rules.delay found kept → IfSome kept (IsRecordOf game.rules game.moves) → last ≤ kept_count kept → IsSome kept → IsWhole game found
+  whole found None is held enough here = cc
+  whole found (Some kept) is held enough here = subst (λ (x : Recorded). IsWritten game.stamp game.rules.delay x found) (at_last game.rules game.moves kept held enough) is
 
   gets_a : GetsOn game (deeds_a steps) net.a.kept
   gets_a n t =
@@ -448,27 +443,29 @@ module _ {K L : Type 0} (a : Keepers K) (b : Keepers L) (game : Judged) (some : 
       has_moves game (min n last) net.b.kept r.world.b.kept r.at.shows.b.kept (faithful_of game r.world (right_of game r.world r.at.holds)).b r.far_b.low
 
   all_a : TakesAll game (deeds_a steps) → IsWhole game net.a.kept
-  all_a t =
-      let r = both_at (length game.moves) 0 t (takes_none game (deeds_b steps)) in
-      whole net.a.kept r.world.a.kept r.at.shows.a.kept r.at.holds.a.kept r.far_a.low (r.far_a.some some.0)
+  all_a (n, lt, le, t) =
+      let r = both_at n 0 t (takes_none game (deeds_b steps)) in
+      let low : min n last ≤ kept_count r.world.a.kept = r.far_a.low in
+      whole net.a.kept r.world.a.kept r.at.shows.a.kept r.at.holds.a.kept (omega (arith, le, low)) (r.far_a.some lt)
 
   all_b : TakesAll game (deeds_b steps) → IsWhole game net.b.kept
-  all_b t =
-      let r = both_at 0 (length game.moves) (takes_none game (deeds_a steps)) t in
-      whole net.b.kept r.world.b.kept r.at.shows.b.kept r.at.holds.b.kept r.far_b.low (r.far_b.some some.0)
+  all_b (n, lt, le, t) =
+      let r = both_at 0 n (takes_none game (deeds_a steps)) t in
+      let low : min n last ≤ kept_count r.world.b.kept = r.far_b.low in
+      whole net.b.kept r.world.b.kept r.at.shows.b.kept r.at.holds.b.kept (omega (arith, le, low)) (r.far_b.some lt)
 
   tells_a : AreLegal game → TakesAll game (deeds_a steps) → HasTold game A net.log
-  tells_a legal t =
-      let r = both_at (length game.moves) 0 t (takes_none game (deeds_b steps)) in
-      subst (HasTold game A) (sym r.at.shows.log) (r.far_a.told legal some.0 within)
+  tells_a legal (n, lt, le, t) =
+      let r = both_at n 0 t (takes_none game (deeds_b steps)) in
+      subst (HasTold game A) (sym r.at.shows.log) (r.far_a.told legal lt le)
 
   tells_b : AreLegal game → TakesAll game (deeds_b steps) → HasTold game B net.log
-  tells_b legal t =
-      let r = both_at 0 (length game.moves) (takes_none game (deeds_a steps)) t in
-      subst (HasTold game B) (sym r.at.shows.log) (r.far_b.told legal some.0 within)
+  tells_b legal (n, lt, le, t) =
+      let r = both_at 0 n (takes_none game (deeds_a steps)) t in
+      subst (HasTold game B) (sym r.at.shows.log) (r.far_b.told legal lt le)
 
   get_on : BothGetOn game (deeds_a steps) (deeds_b steps) net
   get_on = record { on_a = gets_a; on_b = gets_b; whole_a = all_a; whole_b = all_b; told_a = tells_a; told_b = tells_b; one = λ t u. one_found game.stamp game.rules.delay (record_at game.rules game.moves last) net.a.kept net.b.kept (all_a t) (all_b u) }
 
 pub hosts_get_on : {K L : Type 0} (a : Keepers K) (b : Keepers L) → HostsGetOn a b
-hosts_get_on a b game steps net some w = get_on a b game some steps net w
+hosts_get_on a b game steps net short w = get_on a b game short steps net w

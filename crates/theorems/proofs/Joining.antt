@@ -105,7 +105,7 @@ module _ {K : Type 0} (s : Keepers K) (game : Judged) (who : ArbiterId) where
     )
     deed_goes life end Ends deeds here g r = (Fresh, stop_goes s.facts game who old new life here g, r.1)
 
-  pub none_left : (life end : GameStatus K) → RunGoes life [] end → end ≡ life
+  none_left : (life end : GameStatus K) → RunGoes life [] end → end ≡ life
   none_left life end r = r.goes
 
 -- ---- both hosts

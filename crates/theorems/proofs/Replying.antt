@@ -1,8 +1,8 @@
 -- What an arbiter answers to a move of a game whose moves are legal: it reports what it keeps then.
-use Rattle.std.proofs.Common.{◌≡◌, ◌∙◌, ℕ, ◌+◌, ◌-◌, ◌<◌, ◌≤◌, Bool, true, false, cond, ◌||◌, List, [], ◌∷◌, ◌++◌, length, take, drop, take-append-drop, min, Option, Some, None, suc, inl, inr, refl, sym, ap, subst, arith, ⊎_elim}
+use Rattle.std.proofs.Common.{◌≡◌, ◌∙◌, ℕ, ◌+◌, ◌-◌, ◌<◌, ◌≤◌, true, false, cond, ◌||◌, List, [], ◌∷◌, ◌++◌, length, take, drop, take-append-drop, min, Option, Some, None, suc, inl, inr, refl, sym, ap, subst, arith, ⊎_elim}
 use Rattle.std.specs.Prelude.{IsSome, is_none, is_some, nat_le, nat_lt, slice_get}
 use Rattle.std.proofs.lemmas.Bool.{cases_lt, cond_both, leb-true, ltb-false, or_parts}
-use Rattle.std.proofs.lemmas.List.{take_all, take_more}
+use Rattle.std.proofs.lemmas.List.{take_more}
 use Rattle.std.proofs.lemmas.Option.{get_or_from_slice_get}
 use Rattle.board_core.specs.declared.moves.Move.{Move as Word}
 use Rattle.board_core.specs.declared.parts.Parts.{Parts}
@@ -29,7 +29,7 @@ Reports me old (Refuses fault) = ⊥
 Reports me old (Sends outputs later) = outputs ≡ told_now me old
 Reports me old (Puts next outputs later) = outputs ≡ told_now me next
 
-not_none : (o : Option Parts) → IsSome o → o ≡ None → ⊥
+pub not_none : (o : Option Parts) → IsSome o → o ≡ None → ⊥
 not_none None h e = cc
 not_none (Some p) h e = cc
 

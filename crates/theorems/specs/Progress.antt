@@ -45,9 +45,9 @@ abbrev pub TakesMoves : {K : Type 0} → Judged → ℕ → ℕ → List (HostEv
 TakesMoves game from to [] = to ≤ from
 TakesMoves game from to (deed ∷ deeds) = (TakesMove game from deed × TakesMoves game (from + 1) to deeds) ⊎ TakesMoves game from to deeds
 
--- all moves of the game were
+-- The first moves were, one at least, up to the last ply that the game reaches: to its first verdict, its end or its first illegal move.
 abbrev pub TakesAll : {K : Type 0} → Judged → List (HostEvent K) → Type 0
-TakesAll game deeds = TakesMoves game 0 (length game.moves) deeds
+TakesAll game deeds = (n : ℕ) × (0 < n) × (last_ply game.rules game.moves ≤ n) × TakesMoves game 0 n deeds
 
 -- ---- what it tells
 
@@ -79,24 +79,21 @@ GetsOn game deeds found = (n : ℕ) → TakesMoves game 0 n deeds → HasMoves g
 abbrev pub IsWhole : Judged → Option (List ℕ) → Type 0
 IsWhole game found = IsWritten game.stamp game.rules.delay (record_at game.rules game.moves (last_ply game.rules game.moves)) found
 
+-- what is found at both, and what both have told
 pub record BothGetOn {K L : Type 0} (game : Judged) (deeds_a : List (HostEvent K)) (deeds_b : List (HostEvent L)) (net : SystemState) : Type 0 where
   pub on_a : GetsOn game deeds_a net.a.kept
   pub on_b : GetsOn game deeds_b net.b.kept
   pub whole_a : TakesAll game deeds_a → IsWhole game net.a.kept
   pub whole_b : TakesAll game deeds_b → IsWhole game net.b.kept
-  -- and each has told of it, where no move of the game is illegal
+  -- it has told of it, where no move of the game is illegal
   pub told_a : AreLegal game → TakesAll game deeds_a → HasTold game A net.log
   pub told_b : AreLegal game → TakesAll game deeds_b → HasTold game B net.log
   -- and it is one record
   pub one : TakesAll game deeds_a → TakesAll game deeds_b → net.a.kept ≡ net.b.kept
 
--- a game has a move, and no more than messages can number
-abbrev pub HasSomeMoves : Judged → Type 0
-HasSomeMoves game = (0 < length game.moves) × (length game.moves ≤ most_moves)
-
--- THE LAW: Wherever two hosts come, each has found as much of the game as it took in order, and all of it where it took all, and has told so; and two
--- that took all have found one record.
+-- THE LAW: Wherever two hosts come, as many moves of the game are found at each as it took in order; and where it took all, the whole record, of which it
+-- has told; and where both did, one record.
 abbrev pub HostsGetOn : {K L : Type 0} → Keepers K → Keepers L → Type 0
 HostsGetOn {K = K} {L = L} a b =
-    (game : Judged) (steps : List (Step K L)) (net : SystemState) → HasSomeMoves game → AreWoven a b game steps net
+    (game : Judged) (steps : List (Step K L)) (net : SystemState) → length game.moves ≤ most_moves → AreWoven a b game steps net
     → BothGetOn game (deeds_a steps) (deeds_b steps) net

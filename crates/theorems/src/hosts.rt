@@ -27,9 +27,9 @@ pub fn hosts_tell_the_truth<S: System, R: System, G: Games<S>, H: Games<R>>(_sys
     ensures { OfTwoPlaces (G.facts _system.now) (H.facts _other.now) (λ a b. HostsTellTheTruth a b) }
 {}
 
-/// Two such hosts get on with the game. As many of its first moves as a host took in order are found there, or as many as the game reaches; where it
-/// took all of them, the record of the whole game, up to its first verdict, its first illegal move or its end; and two that took all keep one record.
-/// Each has then sent a report of the whole game, if its moves are legal: what a source waits for (`sources_get_on`).
+/// Two such hosts get on with the game. As many of its first moves as a host took in order are found there, or as many as the game reaches. Where it
+/// took them to the first verdict, the first illegal move or the end, that is the record of the whole game; and if the moves are legal, it has sent a
+/// report of it, for which a source waits (`sources_get_on`). Where both did, one record is found.
 ///
 /// A move is taken where its datagram came and was answered, and neither memory was refused for this nor did a put fail: so it is, over a net that
 /// delivers in the end, of one that is sent often enough. Anything may have come between (`specs/Progress.antt`).

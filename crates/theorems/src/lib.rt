@@ -13,8 +13,9 @@
 //! (`goes` of `IsRunOfHost`) is proved of each run of a server, wherever it stopped (`served_are_hosted`).
 //!
 //! Inside: `arbiters`, `hosts`, `served`, `served_stores`, `sources`, `seals`. In `proofs/`: `Netting` (arbiters), `Seeing` (keepers of any type,
-//! seen as what they keep), `Weaving` (an act of a host as steps of an arbiter), `Stopping`, `Joining`, `Acking`, `Replying`, `GettingOn`, `Serving` and
-//! `ServedWeaving` (servers of games over one timeline), `ServedStoring` (those over stores); `Reporting`, `Believing` and `Ending` (a source).
+//! seen as what they keep), `Weaving` (an act of a host as steps of an arbiter), `Stopping`, `Joining`, `Acking`, `Replying`, `GettingOn`,
+//! `Serving` and `ServedWeaving` (servers of games over one timeline), `ServedStoring` (those over stores); `Reporting`, `Believing` and `Ending`
+//! (a source).
 //!
 //! Definitions, in reading order: `Nets`, `Interleavings`, `Progress`, `Served`, `ServedWeaves`, `ServedStores`, `Sources`, `Seals`. A law has no
 //! case of its own; `tools/host_games` and `tools/weather` play games between two hosts.
@@ -25,9 +26,9 @@
 //!   their acts in any order and those of other games among them, come to a world. While the game is open, its arbiter runs and its keeper keeps
 //!   what is found there.
 //! - CLAIM: `acks_are_found`: as many moves as a host ever acknowledged are found there, then and later: the game's first ones.
-//! - CLAIM: `hosts_get_on`: as many first moves of the game as such a host took in order are found there, or as many as the game reaches; where it
-//!   took all, the record of the whole game is, up to its first verdict, its first illegal move or its end, and of legal moves a report of it was
-//!   sent; two that took all have one record. A move is taken where its datagram was answered, and neither memory was refused for this nor did a
+//! - CLAIM: `hosts_get_on`: as many first moves of the game as such a host took in order are found there, or as many as the game reaches. Where it
+//!   took them to the first verdict, the first illegal move or the end, that is the record of the whole game, and of legal moves a report of it was
+//!   sent; where both did, one record is found. A move is taken where its datagram was answered, and neither memory was refused for this nor did a
 //!   put fail; anything may come between.
 //! - CLAIM: `arbiters_tell_the_truth`; `hosts_tell_the_truth`: what such arbiters, and such hosts, tell of the game while it is open is
 //!   true: the record is the game's first moves, with the first verdict exactly at its ply.
