@@ -299,7 +299,6 @@ fn answer_anew<S: System, C: Times>(
 }
 
 /// Fills the response with a report in a form, of this type.
-#[tactic(auto, using(crate::proofs::OpenReadLaws::no_reads))]
 fn answer_report<S: System, C: Times>(
     games: &mut Games<'_, S, C>,
     timeline: &mut S::Timeline,
@@ -320,7 +319,6 @@ fn answer_report<S: System, C: Times>(
 }
 
 /// Fills the response to what is asked for of games.
-#[tactic(auto, using(crate::proofs::OpenReadLaws::no_reads))]
 fn answer<S: System, C: Times>(
     answerer: &mut Answerer<'_, '_, S>,
     games: &mut Games<'_, S, C>,
@@ -361,7 +359,6 @@ fn answer<S: System, C: Times>(
 }
 
 /// Fills the response to what is asked for of games by a method.
-#[tactic(auto, using(crate::proofs::OpenReadLaws::no_reads))]
 fn answer_by_method<S: System, C: Times>(
     answerer: &mut Answerer<'_, '_, S>,
     games: &mut Games<'_, S, C>,
