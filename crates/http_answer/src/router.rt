@@ -372,7 +372,7 @@ fn answer_by_method<S: System, C: Times>(
     ensures answer { OnOk result (IsByMethod method.now (MayAnswer S.outside C.says answerer.old (asked_of_games topic)) games.old games.new response.new) }
     ensures same { answerer.new ≡ answerer.old }
     ensures same_games { OnErr result (games.new ≡ games.old) }
-    ensures made { ReadsOver S.outside answerer.old timeline.old timeline.new (λ o tables. ReadsByMethod method.now (ReadsForGames o tables (paths_on games.old.on) (asked_of_games topic))) }
+    ensures made { ReadsOver S.outside answerer.old timeline.old timeline.new (λ o f. ReadsByMethod method.now (ReadsForGames o f (paths_on games.old.on) (asked_of_games topic))) }
 {
     match verb_at(Place::Games, method) {
         Verb::Read => answer(answerer, games, timeline, topic, response),
