@@ -12,7 +12,7 @@
 //!
 //! - CLAIM: `run_program`: the words are those of one task, and the program does what the definition of its command says; or they are
 //!   misused, which is said on standard error, and nothing else is written; or memory was refused, which is the one line. That is each event
-//!   on the timeline, in order, and there is no other one. Of `serve`, while it answers requests, it is said of which kinds they are.
+//!   on the timeline, in order, and there is no other one. Of `serve` it stays open which files of tables its requests read.
 //! - CLAIM: `run_program`: the status is that of the command, or 2 for a misuse, where all that was written to the output has gone out, and else
 //!   1, which is noted.
 #![tactic(auto)]

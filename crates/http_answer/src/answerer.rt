@@ -147,7 +147,6 @@ impl<'r, 's, S: System> Answerer<'r, 's, S> {
     }
 
     /// The answer for a text.
-    #[tactic(auto, using(crate::proofs::OpenReadLaws::no_reads))]
     fn line_for(&mut self, timeline: &mut S::Timeline, text: &[u8]) -> Result<ApiLine, AllocError>
         ensures answer { IfOk result (AnswersText (files_of S.outside self.old.disk) self.old.folder text.now) }
         ensures same { self.new ≡ self.old }
@@ -290,7 +289,6 @@ impl<'r, 's, S: System> Answerer<'r, 's, S> {
     }
 
     /// The line of best play from the position of a text.
-    #[tactic(auto, using(crate::proofs::OpenReadLaws::no_reads))]
     fn mainline_for(
         &mut self,
         timeline: &mut S::Timeline,
@@ -359,7 +357,7 @@ impl<'r, 's, S: System> Answerer<'r, 's, S> {
     }
 
     /// Fills the response for what is asked for.
-    #[tactic(auto, using(crate::proofs::OpenReadLaws::no_reads))]
+    #[tactic(auto, using(crate::proofs::ReadLaws::nothing_asked))]
     fn reply(
         &mut self,
         timeline: &mut S::Timeline,

@@ -14,7 +14,7 @@
 //! Inside: `query` and `lines` (texts of positions in a query and in a body), `asking` (what a request asks for), `filling`, `answerer`,
 //! `page`; `times`, `games` (folders of games, and reports), `plies` (the object of a game), `router`, `watch` (a page).
 //!
-//! Definitions, in reading order: `Queries`, `Places`, `Files`, `Replies`; `Times`, `Games`.
+//! Definitions, in reading order: `Queries`, `Places`, `Files`, `Replies`; `Times`, `Games`; `Reads`.
 //!
 //! - CLAIM: `Router::answer`, clause `answered`: the response is the one that `IsServed` has for the request's method and path, and the folders
 //!   stay the same. Of all games it is the report that `status` writes as JSON or as metrics, of one game its object with each ply, by a
@@ -22,8 +22,12 @@
 //!   them. 404 where no folder lists the file of the stamp, and for each path of games where no folder is named.
 //! - CLAIM: `Router::answer`, clause `answered`: a report on all games is the one that is kept, where that is less than a second old by the
 //!   clock, and else one that is read, which is kept with the time (`IsAged`).
-//! - CLAIM: `Router::answer`, `Answerer::answer`, clause `made`: nothing changes outside. Folders are listed, files read or looked for, and lines
-//!   noted, whatever the result, and nothing else comes (`OnlyReads`).
+//! - CLAIM: `Router::answer`, clause `answered`: where memory is refused the response is 503, with no field and no body, and all stays
+//!   (`IsResponded`).
+//! - CLAIM: `Router::answer`, `Answerer::answer`, clause `made`: what is read for a request, also where memory is refused (`ReadsForRequest`,
+//!   `ReadsForAsked`). For a position files of tables of the folder, and nothing for a text that is none; for a report or a game what
+//!   `read_report` or `read_game` reads, or nothing where a report is answered again; then tables for the plies of a game, and all of that
+//!   game once more where a table has no room; for all else nothing. Nothing else comes.
 //! - CLAIM: `Answerer::answer`, clauses `replied`, `same`: the response is the reply to the request (`IsReply`), and the folder stays
 //!   the same. For a position it is an object of the tablebase API with each legal move, by tables of the folder of which none is missing
 //!   at the position and after its moves; or the refusal of the file of one that is needed. For a body it is these of each line, in turn.

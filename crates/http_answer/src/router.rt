@@ -299,7 +299,6 @@ fn answer_anew<S: System, C: Times>(
 }
 
 /// Fills the response with a report in a form, of this type.
-#[tactic(auto, using(crate::proofs::OpenReadLaws::no_reads))]
 fn answer_report<S: System, C: Times>(
     games: &mut Games<'_, S, C>,
     timeline: &mut S::Timeline,
@@ -320,7 +319,6 @@ fn answer_report<S: System, C: Times>(
 }
 
 /// Fills the response to what is asked for of games.
-#[tactic(auto, using(crate::proofs::OpenReadLaws::no_reads))]
 fn answer<S: System, C: Times>(
     answerer: &mut Answerer<'_, '_, S>,
     games: &mut Games<'_, S, C>,
@@ -361,7 +359,6 @@ fn answer<S: System, C: Times>(
 }
 
 /// Fills the response to what is asked for of games by a method.
-#[tactic(auto, using(crate::proofs::OpenReadLaws::no_reads))]
 fn answer_by_method<S: System, C: Times>(
     answerer: &mut Answerer<'_, '_, S>,
     games: &mut Games<'_, S, C>,
@@ -375,7 +372,7 @@ fn answer_by_method<S: System, C: Times>(
     ensures answer { OnOk result (IsByMethod method.now (MayAnswer S.outside C.says answerer.old (asked_of_games topic)) games.old games.new response.new) }
     ensures same { answerer.new ≡ answerer.old }
     ensures same_games { OnErr result (games.new ≡ games.old) }
-    ensures made { ReadsOver S.outside answerer.old timeline.old timeline.new (λ o tables. ReadsByMethod method.now (ReadsForGames o tables (paths_on games.old.on) (asked_of_games topic))) }
+    ensures made { ReadsOver S.outside answerer.old timeline.old timeline.new (λ o f. ReadsByMethod method.now (ReadsForGames o f (paths_on games.old.on) (asked_of_games topic))) }
 {
     match verb_at(Place::Games, method) {
         Verb::Read => answer(answerer, games, timeline, topic, response),

@@ -8,7 +8,7 @@ use Rattle.http_server.specs.declared.response.Response.{Response}
 use Rattle.table_folder.specs.Folders.{FolderOn}
 use Rattle.table_folder.specs.declared.files.SystemFiles.{SystemFiles}
 use Rattle.timeline.specs.Outsides.{AddsSome, Outside}
-use Rattle.serve_core.specs.Serve.{AnswersCall}
+use Rattle.serve_core.specs.Serve.{AnswersCall, AnswersRequests}
 
 -- what stays: which timeline it has, over which system, and whether requests are logged
 pub record Ground (G : Type 0) : Type 0 where
@@ -33,3 +33,7 @@ pub record AnswersOne {G C T P F K S L : Type 0} (outside : G → Outside T P F 
 pub record IsGrounded {G C : Type 0} (system : G) (tables : FolderOn (SystemFiles G)) (games : Option (GamesByClock G C)) : Type 0 where
   pub one : AreOfOne tables games
   pub same : system ≡ tables.disk.system.now
+
+-- from one moment to a later one some requests are answered by these folders, and nothing else comes
+abbrev pub AddsRequests : {G C T P F K S L : Type 0} → Outside T P F K S L → T → T → Bool → FolderOn (SystemFiles G) → Option (GamesByClock G C) → Type 0
+AddsRequests o before after is_logged tables games = AddsSome o before after (AnswersRequests o is_logged tables.folder (paths_of games))

@@ -2,11 +2,9 @@
 
 ghost use Rattle.std.specs.Prelude.{◌≡◌};
 ghost use Rattle.http_answer.specs.Games.{AreOfOne};
-ghost use Rattle.http_answer.specs.Reads.{paths_of};
 ghost use Rattle.http_loop.specs.Servers.{ServesCalls};
-ghost use Rattle.serve_core.specs.Answering.{AnswersOne};
+ghost use Rattle.serve_core.specs.Answering.{AddsRequests, AnswersOne};
 ghost use Rattle.serve_core.specs.Logging.{NotesRequest, request_line};
-ghost use Rattle.serve_core.specs.Serve.{AnswersRequests};
 ghost use Rattle.serve_core.specs.Streams.{RoutesOver};
 ghost use Rattle.timeline.specs.Outsides.{AddsSome};
 
@@ -145,7 +143,7 @@ pub fn answer_requests<'r, C: Clock, L: Listener + Drop, S: System, T: Times>(
     requires one { AreOfOne router.answerer router.games }
     requires same { system.now ≡ router.answerer.disk.system.now }
     ensures replied { RoutesOver S.outside T.says router.entry.answerer router.entry.games L.streams L.Reader.remaining L.Writer.contents server.old server.new }
-    ensures made { AddsSome (S.outside system.now) timeline.old timeline.new (AnswersRequests (S.outside system.now) asked.is_logged router.entry.answerer.folder (paths_of router.entry.games)) }
+    ensures made { AddsRequests (S.outside system.now) timeline.old timeline.new asked.is_logged router.entry.answerer router.entry.games }
 {
     let mut service = Answering {
         asked,
