@@ -6,8 +6,7 @@
 //! bytes. The kit's `sqlite` runs the statements, over memory or over the two files of a database; what is said of values is said
 //! under its premise that the disk returned what was written (`IsTrusted`).
 //!
-//! - `store`: the store (`Store`); `files`: a store over two files; `fault`: why something fails; `open_fault`: why a store at a path isn't
-//!   opened
+//! - `store`: the store (`Store`); `files`: a store over two files; `fault`: why something fails
 //! - `sqlite_stores`: where stores are opened, and how their files are read (`SqliteStores`); `machine_stores`: the same under the short
 //!   names that `main` passes on (`MachineStores`); `store_file`: whether the file of an open store was replaced
 //! - `memory`: the games in memory; `tables`: what tables a database has; `reading`: an opening; `writing`: a batch; `store_tests`: stops
@@ -41,7 +40,6 @@ mod fault;
 mod files;
 mod machine_stores;
 mod memory;
-mod open_fault;
 mod reading;
 mod sqlite_stores;
 mod store;
@@ -54,6 +52,5 @@ mod writing;
 pub use fault::DatabaseFault;
 pub use machine_stores::{MachineStore, MachineStores};
 pub use memory::Kept;
-pub use open_fault::OpenFault;
 pub use sqlite_stores::{AnyFiles, SqliteStores};
 pub use store::Store;

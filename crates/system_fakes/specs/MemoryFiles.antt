@@ -18,6 +18,6 @@ handle_facts h = record {
 abbrev pub path_facts : MemoryPaths → PathFacts
 path_facts p = record {
   names = λ path number. IsFoundAt (λ row. row.path.now) (λ row. row.holds) p.files.now path number;
-  renames = λ path to. IsFoundAt (λ row. row.path.now) (λ row. row.holds.now) p.renames.now path to;
+  renames = λ path to. IsFoundAt (λ row. row.path.now) (λ row. row.holds) p.renames.now path true;
   syncs = λ path. IsFoundAt (λ row. row.path.now) (λ row. row.holds) p.syncs.now path true;
 }

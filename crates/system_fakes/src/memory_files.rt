@@ -119,22 +119,22 @@ impl FileHandle for MemoryHandle {
     }
 }
 
-/// Paths in memory: which regular file stands at a path, which name it can get, and whether its folder can be synced. Of two entries for
+/// Paths in memory: which regular file stands at a path, and whether it can be renamed and its folder synced. Of two entries for
 /// one path the first counts.
 #[derive(Drop)]
 pub struct MemoryPaths<'a> {
     alloc: Global,
     files: &'a [AtPath<'a, FileNumber>],
-    renames: &'a [AtPath<'a, &'a str>],
+    renames: &'a [AtPath<'a, bool>],
     syncs: &'a [AtPath<'a, bool>],
 }
 
 impl<'a> MemoryPaths<'a> {
-    /// These files at their paths, with the names that they can get and the folders that can be synced.
+    /// These files at their paths, with those that can be renamed and those whose folder can be synced.
     pub fn new(
         alloc: Global,
         files: &'a [AtPath<'a, FileNumber>],
-        renames: &'a [AtPath<'a, &'a str>],
+        renames: &'a [AtPath<'a, bool>],
         syncs: &'a [AtPath<'a, bool>],
     ) -> MemoryPaths<'a> {
         MemoryPaths {
@@ -194,9 +194,9 @@ impl<'a> FilePaths for MemoryPaths<'a> {
         }
     }
 
-    fn rename_to(&self, path: &str, to: &str) -> io::Result<()> {
+    fn rename_to(&self, path: &str, _to: &str) -> io::Result<()> {
         match found(self.renames, path) {
-            Some(name) if name == to => Ok(()),
+            Some(true) => Ok(()),
             _ => Err(failed()),
         }
     }
