@@ -1,6 +1,6 @@
 //! A line that is laid out before it is written at once.
 
-ghost use Rattle.std.specs.Prelude.{◌≡◌, ◌≤◌, ◌+◌, ◌++◌, [], OnErr, length};
+ghost use Rattle.std.specs.Prelude.{◌≡◌, ◌≤◌, ◌+◌, ◌++◌, [], IfOk, OnErr, length};
 ghost use Rattle.hex.specs.Hex.{encode_lower};
 ghost use Rattle.move_msg.specs.TextLines.{ended};
 ghost use Rattle.timeline.specs.Events.{IsWritten};
@@ -9,6 +9,7 @@ ghost use Rattle.timeline.specs.Outsides.{AddsSome};
 use arrayvec::ArrayVec;
 use itoa::{Buffer, Integer};
 use move_msg::Stamp;
+use std::alloc::{AllocError, Global};
 use std::marker::Model;
 use system_io::WriteFault;
 use timeline::{Stream, System};
@@ -98,6 +99,16 @@ impl LineWords {
     {
         self.add(words);
         self.add_number(number);
+    }
+
+    /// The line with its line feed. The error comes where memory is refused.
+    pub fn into_text(self, alloc: Global) -> Result<Vec<u8>, AllocError>
+        ensures { IfOk result (λ text. text.items ≡ ended self) }
+    {
+        let LineWords { bytes } = self;
+        let mut text = bytes;
+        text.push(b'\n');
+        Vec::from_slice(alloc, text.as_slice())
     }
 
     /// Writes the line at once to a stream of a system, with its line feed. An error comes only where a write may be refused; a front

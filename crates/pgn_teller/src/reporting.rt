@@ -16,7 +16,6 @@ use crate::game_object::{Texts, put_fault, put_game, put_refused, put_sums};
 use crate::rating::{GameRuler, Ruled};
 use crate::sums::{Mark, Sums, one_more};
 use answer_parts::print_unread;
-use line_teller::LineWords;
 use pgn_games::{Game, GameFault, GameResult, PgnReader, Reading};
 use std::alloc::{AllocError, Global};
 use system_io::{ReadFault, WriteFault};
@@ -52,17 +51,6 @@ pub(crate) enum Step {
     Ended,
     /// It isn't reported, and nothing more is.
     Cut,
-}
-
-/// A line of words, with its line feed.
-fn text_of(alloc: Global, line: LineWords) -> Result<Vec<u8>, AllocError>
-    ensures { IfOk result (λ text. text.items ≡ ended line) }
-{
-    let mut text = Vec::new(alloc);
-    match line.put(&mut text) {
-        Ok(()) => Ok(text),
-        Err(_) => Err(AllocError),
-    }
 }
 
 /// The object of a game, with a line feed.
@@ -192,7 +180,7 @@ impl<R> GameReporter<R> {
         match self.form {
             Form::Words => {
                 let line = game_line(number, game.moves.len(), ruled, game.result);
-                text_of(self.alloc, line)
+                line.into_text(self.alloc)
             }
             Form::Json => object_of_game(self.alloc, number, game, ruled),
         }
@@ -203,7 +191,7 @@ impl<R> GameReporter<R> {
         ensures { IfOk result (λ text. text.items ≡ ended (pgn_fault_line self.now.form number fault.now)) }
     {
         match self.form {
-            Form::Words => text_of(self.alloc, fault_line(number, fault)),
+            Form::Words => fault_line(number, fault).into_text(self.alloc),
             Form::Json => object_of_fault(self.alloc, number, fault),
         }
     }
@@ -218,7 +206,7 @@ impl<R> GameReporter<R> {
         ensures { IfOk result (λ text. text.items ≡ ended (pgn_refused_line self.now.form number line refusal.now)) }
     {
         match self.form {
-            Form::Words => text_of(self.alloc, refused_line(number, refusal)),
+            Form::Words => refused_line(number, refusal).into_text(self.alloc),
             Form::Json => object_of_refused(self.alloc, number, line, refusal),
         }
     }
@@ -290,7 +278,7 @@ impl<R> GameReporter<R> {
         ensures { IfOk result (λ text. text.items ≡ ended (pgn_sums_line self.now.form sums.now)) }
     {
         match self.form {
-            Form::Words => text_of(self.alloc, sums_line(sums)),
+            Form::Words => sums_line(sums).into_text(self.alloc),
             Form::Json => object_of_sums(self.alloc, sums),
         }
     }
