@@ -22,13 +22,13 @@ returns-in-Err-clause-game g c =
     on_ok_weaker c.fill_lacked.result (λ has. Lacking (c.in-Err.lacked, lacks, has)) c.fill_lacked.ensures
 
 pub returns-in-Ok-Some-clause-made : goal.returns-in-Ok-Some-clause-made
-returns-in-Ok-Some-clause-made g c = game_then g.S.System.outside _ c.args.answerer.now c.args.answerer.now _ _ _ _ c.requires.one refl c.game.ensures.made c.fill_game.ensures.made
+returns-in-Ok-Some-clause-made g c = game_then g.S.System.outside c.args.games.now.on c.args.answerer.now c.args.answerer.now _ _ _ _ c.requires.one refl c.game.ensures.made c.fill_game.ensures.made
 
 pub returns-in-Ok-None-clause-made : goal.returns-in-Ok-None-clause-made
-returns-in-Ok-None-clause-made g c = game_alone g.S.System.outside _ _ _ _ _ c.requires.one c.game.ensures.made
+returns-in-Ok-None-clause-made g c = game_alone g.S.System.outside c.args.games.now.on c.args.answerer.now _ _ _ c.requires.one c.game.ensures.made
 
 pub returns-in-Err-clause-made : goal.returns-in-Err-clause-made
-returns-in-Err-clause-made g c = game_alone g.S.System.outside _ _ _ _ _ c.requires.one c.game.ensures.made
+returns-in-Err-clause-made g c = game_alone g.S.System.outside c.args.games.now.on c.args.answerer.now _ _ _ c.requires.one c.game.ensures.made
 
 pub returns-in_err-found-clause-made : goal.returns-in_err-found-clause-made
-returns-in_err-found-clause-made g c = game_alone g.S.System.outside _ _ _ _ _ c.requires.one c.game.ensures.made
+returns-in_err-found-clause-made g c = game_alone g.S.System.outside c.args.games.now.on c.args.answerer.now _ _ _ c.requires.one c.game.ensures.made

@@ -11,7 +11,7 @@ returns-clause-answer g c =
     on_ok_weaker c.add_object_line.result (λ is. (c.in_ok-line.line, answer, is)) c.add_object_line.ensures
 
 pub returns-in_err-line-clause-made : goal.returns-in_err-line-clause-made
-returns-in_err-line-clause-made g c = text_read g.S.System.outside _ _ _ _ c.line_for.ensures.made
+returns-in_err-line-clause-made g c = text_read g.S.System.outside c.args.self.now _ _ _ c.line_for.ensures.made
 
 pub returns-clause-made : goal.returns-clause-made
-returns-clause-made g c = text_read g.S.System.outside _ _ _ _ c.line_for.ensures.made
+returns-clause-made g c = text_read g.S.System.outside c.args.self.now _ _ _ c.line_for.ensures.made

@@ -11,7 +11,7 @@ pub returns-in-Ok-clause-answer : goal.returns-in-Ok-clause-answer
 returns-in-Ok-clause-answer g c = IfOk-weaker c.mainline_of.result _ _ (λ l is. ForPosition c.in-Ok.position c.in-Ok.ensures.ok c.in-Ok.ensures.position is) c.mainline_of.ensures.answer
 
 pub returns-in-Ok-clause-made : goal.returns-in-Ok-clause-made
-returns-in-Ok-clause-made g c = position_read g.S.System.outside _ _ _ _ c.in-Ok.position c.in-Ok.ensures.ok c.in-Ok.ensures.position c.mainline_of.ensures.made
+returns-in-Ok-clause-made g c = position_read g.S.System.outside c.args.self.now _ _ _ c.in-Ok.position c.in-Ok.ensures.ok c.in-Ok.ensures.position c.mainline_of.ensures.made
 
 pub returns-in-Err-clause-made : goal.returns-in-Err-clause-made
 returns-in-Err-clause-made g c = nothing_for g.S.System.outside _ _ _ _

@@ -39,11 +39,11 @@ pub returns-in-Some-topic_at-clause-made : goal.returns-in-Some-topic_at-clause-
 returns-in-Some-topic_at-clause-made g c =
     let a = asked_of_games c.in-Some-topic_at.topic in
     let asks = subst (λ (path : List ℕ). AsksOfGames path a) (c.path.ensures.value ∙ ap uri_path c.uri.ensures) c.in-Some-topic_at.ensures.some in
-    games_asked g.S.System.outside _ c.args.self.now.games c.in-Some.games _ _ _ _ a c.in-Some.is asks (c.as_str.ensures.value ∙ c.method.ensures) c.answer_by_method.ensures.made
+    games_asked g.S.System.outside c.args.self.now.answerer c.args.self.now.games c.in-Some.games _ _ _ _ a c.in-Some.is asks (c.as_str.ensures.value ∙ c.method.ensures) c.answer_by_method.ensures.made
 
 pub returns-in-None-clause-made : goal.returns-in-None-clause-made
 returns-in-None-clause-made g c =
-    tables_asked g.S.System.outside _ c.args.self.now.games _ _ _ (elsewhere c.args.self.now.games c.in-Some.games _ c.path.result.now c.in-Some.is (c.path.ensures.value ∙ ap uri_path c.uri.ensures) c.in-None.ensures.none) c.answer-in-None.ensures.made
+    tables_asked g.S.System.outside c.args.self.now.answerer c.args.self.now.games _ _ _ (elsewhere c.args.self.now.games c.in-Some.games _ c.path.result.now c.in-Some.is (c.path.ensures.value ∙ ap uri_path c.uri.ensures) c.in-None.ensures.none) c.answer-in-None.ensures.made
 
 pub returns-in_default-clause-made : goal.returns-in_default-clause-made
-returns-in_default-clause-made g c = tables_asked g.S.System.outside _ c.args.self.now.games _ _ _ (none_named c.args.self.now.games _ c.in_default.is) c.answer.ensures.made
+returns-in_default-clause-made g c = tables_asked g.S.System.outside c.args.self.now.answerer c.args.self.now.games _ _ _ (none_named c.args.self.now.games _ c.in_default.is) c.answer.ensures.made
