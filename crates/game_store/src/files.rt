@@ -11,6 +11,7 @@ ghost use Rattle.game_store.specs.Shelves.{HoldsGames, IsOpen, IsTrusted, Leaves
 ghost use Rattle.game_store.specs.Files.{FindsBatch, FindsGames, HoldsGamesAlone, LeavesGames, NextOpenFinds};
 
 use crate::fault::DatabaseFault;
+use crate::open_fault::OpenFault;
 use crate::store::Store;
 use sqlite::{Connection, FileFrom, FileStore, Files, Leftover, Options, Start};
 use sqlite_disk::Disk;
@@ -85,12 +86,12 @@ impl<D: Disk + Drop> Store<FileStore<D>> {
 impl<S: Start> Store<FileStore<FileFrom<S>>> {
     /// Opens the database at a path, or makes it, with the log beside it (`-wal`). `S` stands for what the two files hold. With
     /// `Unknown` a torn write is taken to leave each byte old or new, with `Wary` it isn't. Another process that has the database
-    /// open keeps this one out.
+    /// open keeps this one out. The error is what the failed call told.
     pub fn open_at(
         rt: &HostRuntime,
         path: &str,
         start: S,
-    ) -> Result<Store<FileStore<FileFrom<S>>>, DatabaseFault>
+    ) -> Result<Store<FileStore<FileFrom<S>>>, OpenFault>
         ensures found { IfOk result (λ store. IsTrusted over_files store → FindsGames (image_at S.Start) (committed over_files store)) }
         ensures open { IfOk result (λ store. IsTrusted over_files store → IsOpen over_files store) }
         ensures lasts { IfOk result (λ store. IsTrusted over_files store → Leaves over_files store (λ db. HoldsGames db (committed over_files store))) }
@@ -98,11 +99,11 @@ impl<S: Start> Store<FileStore<FileFrom<S>>> {
     {
         let conn = match Connection::open_from(rt, path, false, start) {
             Ok(conn) => conn,
-            Err((error, _)) => return Err(DatabaseFault::Sqlite(error)),
+            Err(why) => return Err(OpenFault::of_opening(why)),
         };
         match Store::over(rt.alloc(), conn) {
             Ok(store) => Ok(store),
-            Err((fault, _)) => Err(fault),
+            Err(why) => Err(OpenFault::of_reading(why)),
         }
     }
 }

@@ -6,7 +6,8 @@
 //! bytes. The kit's `sqlite` runs the statements, over memory or over the two files of a database; what is said of values is said
 //! under its premise that the disk returned what was written (`IsTrusted`).
 //!
-//! - `store`: the store (`Store`); `files`: a store over two files; `fault`: why something fails
+//! - `store`: the store (`Store`); `files`: a store over two files; `fault`: why something fails; `open_fault`: why a store at a path isn't
+//!   opened
 //! - `sqlite_stores`: where stores are opened, and how their files are read (`SqliteStores`); `machine_stores`: the same under the short
 //!   names that `main` passes on (`MachineStores`); `store_file`: whether the file of an open store was replaced
 //! - `memory`: the games in memory; `tables`: what tables a database has; `reading`: an opening; `writing`: a batch; `store_tests`: stops
@@ -40,6 +41,7 @@ mod fault;
 mod files;
 mod machine_stores;
 mod memory;
+mod open_fault;
 mod reading;
 mod sqlite_stores;
 mod store;
@@ -52,5 +54,6 @@ mod writing;
 pub use fault::DatabaseFault;
 pub use machine_stores::{MachineStore, MachineStores};
 pub use memory::Kept;
+pub use open_fault::OpenFault;
 pub use sqlite_stores::{AnyFiles, SqliteStores};
 pub use store::Store;

@@ -9,6 +9,7 @@ ghost use Rattle.game_store.specs.Files.{FindsGames};
 ghost use Rattle.game_store.specs.Places.{HaveBytes, copies_fault_of, store_fault_of};
 
 use crate::fault::{DatabaseFault, OUT_OF_MEMORY};
+use crate::open_fault::OpenFault;
 use crate::store::Store;
 use sqlite::{Error, ErrorCode, FileFrom, FileStore, Files, Options, Start};
 use sqlite_disk::{Disk, Memory};
@@ -51,9 +52,10 @@ impl<'r, S: Start + Copy> SqliteStores<'r, S> {
     }
 
     /// What is told of a store at a path that can't be opened. But for memory, standard error says why.
-    fn unopened(&self, path: &str, fault: DatabaseFault) -> StoreFault
-        ensures { result ≡ store_fault_of fault }
+    fn unopened(&self, path: &str, fault: OpenFault) -> StoreFault
+        ensures { result ≡ store_fault_of fault.fault }
     {
+        let fault = fault.cause();
         let told = told(fault);
         if let StoreFault::Unreadable = told {
             let mut notes = self.rt.stderr();
