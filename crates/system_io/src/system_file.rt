@@ -116,6 +116,21 @@ where
         error
     }
 
+    /// Whether a regular file stands at the path.
+    fn is_there(&self) -> bool {
+        matches!(self.rt.number_at(self.path.as_str()), Ok(Some(_)))
+    }
+
+    /// Opens the file to be read. One that got the name just behind the first try is opened by the second.
+    fn open(&self) -> io::Result<(R::Handle, u64)> {
+        match self.rt.open_to_read(self.path.as_str()) {
+            Err(error) if is_absent(&error) && self.is_there() => {
+                self.rt.open_to_read(self.path.as_str())
+            }
+            opened => opened,
+        }
+    }
+
     /// Why the file wasn't opened, which is told, or that nothing stands at its path. A link that leads nowhere, as to a disk that isn't
     /// mounted, stands there, and can't be read.
     fn unless_none_stands(&mut self, error: io::Error) -> Result<(), ReadFault> {
@@ -149,7 +164,7 @@ where
     ghost facts = { λ _. system_calls };
 
     fn read(&mut self, alloc: Global) -> Result<Option<Vec<u8>>, ReadFault> {
-        let (mut file, length) = match self.rt.open_to_read(self.path.as_str()) {
+        let (mut file, length) = match self.open() {
             Ok(opened) => opened,
             Err(error) => {
                 return match self.unless_none_stands(error) {
