@@ -6,5 +6,4 @@ pub mod EachLaws
 pub mod TellLaws
 pub mod ReportLaws
 pub mod AuditLaws
-pub mod ReadingLaws
 pub mod AskedLaws

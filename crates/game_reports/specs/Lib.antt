@@ -6,6 +6,5 @@ pub mod GameLooks
 pub mod GameLines
 pub mod Statuses
 pub mod Audits
-pub mod Readings
 pub mod Asked
 pub mod Inside

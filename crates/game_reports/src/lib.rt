@@ -12,7 +12,7 @@
 //!
 //! Definitions, in reading order: `Writing` (`DoesEach`), `StoreReads` (`Opens`), `GameRecords` (`PrintsGameRecord`), `Folders` (`IsKnownBy`,
 //! `ByFolders`), `GameLooks` (`ReadsSide`, `ReadsLook`), `GameLines` (`TellsGames`), `Statuses` (`ReportsStatus`), `Audits` (`AuditsGames`);
-//! `Readings` (`OnlyReads`), `Asked` (`ReadsReport`, `ReadsGame`).
+//! `Asked` (`ReadsReport`, `ReadsGame`).
 //! `Performs` and `IsCutIn` stand in `Printing` of `answer_parts`, the lines, sums and forms in `game_status`.
 //!
 //! - CLAIM: `open_folder`: the folder is listed once. Where it lists a whole store, the log is read, the database, the log again, and the log
@@ -28,7 +28,7 @@
 //! - CLAIM: `print_game_record`, `report_status`, `print_audit`, clauses `made`, `cause`: where memory is refused, `refused memory` follows the
 //!   lines before, and nothing more; a folder that isn't opened is refused alone. An error comes only where a write might be refused.
 //! - CLAIM: `read_report`, `read_game`: the folders are opened as by `report_status`, and then each game is read, or the one game if a folder lists
-//!   it, first in the first folder alone and then in both. Nothing is written (`proofs/ReadingLaws`: such events are readings and notes alone).
+//!   it, first in the first folder alone and then in both. Nothing is written.
 #![tactic(auto)]
 
 mod asked;

@@ -410,7 +410,7 @@ pub record Routes {G C T P F K S L : Type 0} (outside : G → Outside T P F K S 
   pub tables_stay : after ≡ tables
   pub games_stay : places_of new ≡ places_of old
 
--- the same, or memory was refused for that
+-- a request is answered by them, or memory was refused for that; the folders stay the same
 pub record Responds {G C T P F K S L : Type 0} (outside : G → Outside T P F K S L) (says : C → Option ℕ → Type 0) (tables : FolderOn (SystemFiles G))
     (old : Option (GamesByClock G C)) (request : Request (List ℕ)) (r : Response) (after : FolderOn (SystemFiles G)) (new : Option (GamesByClock G C)) : Type 0 where
   pub answered : IsResponded outside says tables old new request r

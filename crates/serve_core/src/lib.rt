@@ -23,9 +23,10 @@
 //! - CLAIM: `Pages::open`, clause `opened`: the server has the limits of `HasLimits`, and has served no stream.
 //! - CLAIM: `Answering`, clause `answers`: a call is answered by `Router::answer`. What is read for the request comes, and then its note:
 //!   where requests are logged the line `request_line`, or none where memory is refused for it, and else none (`AnswersOne`,
-//!   `NotesRequest`). A call never fails.
+//!   `NotesRequest`).
 //!
-//! Not said: that the requests of `made` are those that the streams gave, and how many they are.
+//! Not said: that the requests of `made` are those that the streams gave, how many they are, and that the responses in their notes were
+//! given; that a call never fails, and that it answers 503 only where memory is refused.
 #![tactic(auto)]
 
 mod answering;
