@@ -100,6 +100,10 @@ ReadsByAction _ By events = events ≡ []
 abbrev pub ReadsByMethod : List ℕ → (List Event → Type 0) → List Event → Type 0
 ReadsByMethod method By events = ReadsByAction (action_of (methods_of FoldersOfGames) method) By events
 
+-- so it is for what is asked of these games by this method
+abbrev pub ReadsOfGames : {G T P F K S L : Type 0} → GamesOn G → List ℕ → AskedOfGames → Outside T P F K S L → Folder → List Event → Type 0
+ReadsOfGames on method a o tables events = ReadsByMethod method (ReadsForGames o tables (paths_on on) a) events
+
 -- ---- all requests
 
 -- what is read for a request, by this folder of tables and by these of games, if they are named

@@ -6,7 +6,7 @@ ghost use Rattle.game_reports.specs.Asked.{AreBothNamed};
 ghost use Rattle.http_answer.specs.Files.{files_of};
 ghost use Rattle.http_answer.specs.Games.{AnswersOfGames, AskedOfGames, AsksBelow, AsksByDigits, AsksOfGames, AsksToWatch, AreOfOne, HasGame, HasReport, HasReportText, IsAged, IsByMethod, IsReportAt, MayAnswer, Responds, Routes, fresh_at, fresh_fields, fresh_json, is_games, is_watch, kept_by, lacked_text};
 ghost use Rattle.http_answer.specs.Inside.{HasGameText, asked_of_games, report_in};
-ghost use Rattle.http_answer.specs.Reads.{ReadsAReport, ReadsByMethod, ReadsForGame, ReadsForGames, ReadsForReport, ReadsForRequest, ReadsIn, ReadsOnceForGame, ReadsOver, ReadsTableFiles, paths_of, paths_on};
+ghost use Rattle.http_answer.specs.Reads.{ReadsAReport, ReadsForGame, ReadsForGames, ReadsForReport, ReadsForRequest, ReadsIn, ReadsOfGames, ReadsOnceForGame, ReadsOver, ReadsTableFiles, paths_of, paths_on};
 ghost use Rattle.http_answer.specs.Times.{nanos};
 
 use crate::answerer::Answerer;
@@ -372,7 +372,7 @@ fn answer_by_method<S: System, C: Times>(
     ensures answer { OnOk result (IsByMethod method.now (MayAnswer S.outside C.says answerer.old (asked_of_games topic)) games.old games.new response.new) }
     ensures same { answerer.new ≡ answerer.old }
     ensures same_games { OnErr result (games.new ≡ games.old) }
-    ensures made { ReadsOver S.outside answerer.old timeline.old timeline.new (λ o f. ReadsByMethod method.now (ReadsForGames o f (paths_on games.old.on) (asked_of_games topic))) }
+    ensures made { ReadsOver S.outside answerer.old timeline.old timeline.new (ReadsOfGames games.old.on method.now (asked_of_games topic)) }
 {
     match verb_at(Place::Games, method) {
         Verb::Read => answer(answerer, games, timeline, topic, response),
