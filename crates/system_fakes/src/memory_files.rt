@@ -187,6 +187,17 @@ impl<'a> FilePaths for MemoryPaths<'a> {
         }
     }
 
+    fn number_behind_lock(
+        &self,
+        _file: &MemoryHandle,
+        path: &str,
+    ) -> io::Result<Option<FileNumber>> {
+        match found(self.files, path) {
+            Some(number) => Ok(Some(number)),
+            None => Err(io::Error::from(io::ErrorKind::NotFound)),
+        }
+    }
+
     fn remove_at(&self, _file: &MemoryHandle, path: &str) -> io::Result<()> {
         match found(self.files, path) {
             Some(_) => Ok(()),

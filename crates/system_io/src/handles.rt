@@ -71,7 +71,11 @@ pub trait FilePaths {
     fn open_to_read(&self, path: &str) -> io::Result<(Self::Handle, u64)>;
 
     /// The number of the regular file at a path; none where something else stands there. The error is `NotFound` where nothing does.
-    fn number_at(&self, path: &str) -> io::Result<Option<FileNumber>>
+    fn number_at(&self, path: &str) -> io::Result<Option<FileNumber>>;
+
+    /// The same, looked at while this process has the lock of an open file. What was looked at before the lock may be gone since.
+    fn number_behind_lock(&self, file: &Self::Handle, path: &str) -> io::Result<Option<FileNumber>>
+        requires { (Self.Handle.facts file.now).is_locked }
         ensures { IfOk result (λ got. IfSome got ((facts self.now).names path.now)) };
 
     /// Removes an open file from its path.
@@ -181,6 +185,10 @@ impl<R: Files<File = File>> FilePaths for R {
         Ok(named.is_file().then_some(number_of(&named)))
     }
 
+    fn number_behind_lock(&self, _file: &File, path: &str) -> io::Result<Option<FileNumber>> {
+        self.number_at(path)
+    }
+
     fn remove_at(&self, _file: &File, path: &str) -> io::Result<()> {
         fs::remove_file(self, path)
     }
@@ -194,12 +202,13 @@ impl<R: Files<File = File>> FilePaths for R {
     }
 }
 
-/// Whether an open file is the regular file at a path, and no other that a link leads to. It isn't where another process has removed it.
+/// Whether a locked file is the regular file at a path, and no other that a link leads to. It isn't where another process has removed it.
 pub(crate) fn stands_at<P: FilePaths>(paths: &P, file: &P::Handle, path: &str) -> io::Result<bool>
+    requires { (P.Handle.facts file.now).is_locked }
     ensures { IfOk result (λ is. IsTrue is → StandsAt (P.Handle.facts file.now) (P.facts paths.now) path.now) }
 {
     let open = file.number()?;
-    match paths.number_at(path) {
+    match paths.number_behind_lock(file, path) {
         Ok(Some(named)) => Ok(named == open),
         Ok(None) => Ok(false),
         Err(error) if error.kind() == io::ErrorKind::NotFound => Ok(false),
