@@ -40,7 +40,7 @@ pub trait FileHandle {
         ensures stays { Stays (facts self.old) (facts self.new) }
         ensures made { KeepsMade (facts self.old) (facts self.new) };
 
-    /// Locks it, if no other process has. Whether this one has its lock now. One that another has locked counts no more as made.
+    /// Locks it, if no other process has. Whether this one has its lock now. One that another has locked no longer counts as made.
     fn take_lock(&mut self) -> io::Result<bool>
         ensures locked { IfOk result (λ is. IsTrue is → (facts self.new).is_locked) }
         ensures same { KeepsBytes (facts self.old) (facts self.new) }

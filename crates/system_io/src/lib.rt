@@ -54,7 +54,7 @@
 //! - CLAIM: `SystemCalls::write`, clause `beside`; `SystemCalls::sync`, clause `synced`; `SystemCalls::rename`, clause `renamed`;
 //!   `SystemCalls::sync_folder`, clause `synced`: at `Ok` all bytes stand in a new and locked file beside, that same file was synced, the
 //!   file at its path got the name, and the folder was synced, by what `FileHandle` and `FilePaths` say of each call.
-//! - CLAIM: `SystemCalls::read`, clause `nothing`: none is read only where the system says that nothing stands at the path that could be.
+//! - CLAIM: `SystemCalls::read`, clause `nothing`: `Ok(None)` comes only where opening says that nothing is at the path.
 #![tactic(auto)]
 
 mod beside_file;
