@@ -1,6 +1,8 @@
 //! Open files and paths in memory, whose calls fail on request.
 
-ghost use Rattle.std.specs.Prelude.{◌≡◌, [], string_bytes, IfOk};
+ghost use Rattle.std.specs.Prelude.{◌≡◌, [], string_bytes, IfErr, IfOk};
+ghost use Rattle.std.specs.IoError.{error_kind};
+ghost use Rattle.std.specs.declared.io.ErrorKind.TheVariants.{OutOfMemory};
 ghost use Rattle.system_fakes.specs.MemoryFiles.{handle_facts};
 
 use crate::memory_disk::{AtPath, found};
@@ -33,6 +35,7 @@ impl MemoryHandle {
     pub fn new(alloc: Global, path: &str, number: FileNumber) -> io::Result<MemoryHandle>
         ensures empty { IfOk result (λ file. (handle_facts file).holds []) }
         ensures made { IfOk result (λ file. (handle_facts file).is_made_at path.now) }
+        ensures memory { IfErr result (λ e. error_kind e ≡ OutOfMemory) }
     {
         let path = String::from_str(alloc, path)?;
         Ok(MemoryHandle {
@@ -181,6 +184,17 @@ impl<'a> FilePaths for MemoryPaths<'a> {
     }
 
     fn number_at(&self, path: &str) -> io::Result<Option<FileNumber>> {
+        match found(self.files, path) {
+            Some(number) => Ok(Some(number)),
+            None => Err(io::Error::from(io::ErrorKind::NotFound)),
+        }
+    }
+
+    fn number_behind_lock(
+        &self,
+        _file: &MemoryHandle,
+        path: &str,
+    ) -> io::Result<Option<FileNumber>> {
         match found(self.files, path) {
             Some(number) => Ok(Some(number)),
             None => Err(io::Error::from(io::ErrorKind::NotFound)),

@@ -1,6 +1,6 @@
 -- A file beside another on its way to the name, and a file that is locked (this project's own).
 use Rattle.std.specs.Prelude.{◌≡◌, ℕ, List, Option, Some, string_bytes}
-use Rattle.system_io.specs.Handles.{HandleFacts, PathFacts, IsOwnAt, IsOwnNew, KeepsBytes, Stays}
+use Rattle.system_io.specs.Handles.{HandleFacts, PathFacts, IsOwnAt, IsOwnNew, KeepsBytes, KeepsMade, Stays}
 use Rattle.system_io.specs.Places.{IsBeside}
 use Rattle.system_io.specs.declared.beside_file.BesideFile.{BesideFile}
 use Rattle.system_io.specs.declared.beside_file.Written.{Written}
@@ -24,6 +24,7 @@ pub record IsSyncedFrom {H : Type 0} (facts : H → HandleFacts) (written : Writ
   pub same : synced.beside.path ≡ written.beside.path
   pub bytes : KeepsBytes (facts written.beside.file) (facts synced.beside.file)
   pub stays : Stays (facts written.beside.file) (facts synced.beside.file)
+  pub made : KeepsMade (facts written.beside.file) (facts synced.beside.file)
 
 -- the file that has the lock is the one that stood at this path
 pub record IsLockedAt {H : Type 0} (facts : H → HandleFacts) (paths : PathFacts) (path : List ℕ) (locked : Locked H) : Type 0 where

@@ -14,13 +14,15 @@ pub record HandleFacts : Type 1 where
   pub is_linked : Type 0
   -- it is the file with this number
   pub is_numbered : FileNumber → Type 0
-  -- this process made it at this path, where nothing stood
+  -- this process made it at this path, where nothing stood, and hasn't found it locked by another since
   pub is_made_at : List ℕ → Type 0
 
 -- what is known of paths
 pub record PathFacts : Type 1 where
   -- the regular file with this number stands at this path
   pub names : List ℕ → FileNumber → Type 0
+  -- nothing stands at this path that could be read
+  pub lacks : List ℕ → Type 0
   -- the file at this path has got this name
   pub renames : List ℕ → List ℕ → Type 0
   -- the names in the folder of the file at this path are on the disk
@@ -30,11 +32,14 @@ pub record PathFacts : Type 1 where
 abbrev pub KeepsBytes : HandleFacts → HandleFacts → Type 0
 KeepsBytes old new = (bytes : List ℕ) → old.holds bytes → new.holds bytes
 
+-- where this process made it, it still counts as made
+abbrev pub KeepsMade : HandleFacts → HandleFacts → Type 0
+KeepsMade old new = (path : List ℕ) → old.is_made_at path → new.is_made_at path
+
 -- it is the same file, and its lock is kept
 pub record Stays (old new : HandleFacts) : Type 0 where
   pub locked : old.is_locked → new.is_locked
   pub numbered : (number : FileNumber) → old.is_numbered number → new.is_numbered number
-  pub made : (path : List ℕ) → old.is_made_at path → new.is_made_at path
 
 -- the file is the one that stands at this path
 pub record StandsAt (file : HandleFacts) (paths : PathFacts) (path : List ℕ) : Type 0 where

@@ -62,10 +62,10 @@ system_handle = record {
   is_made_at = λ _. Unit {0};
 }
 
--- PATHS: at a path stands what the system tells, a rename that returns has given the name, and where the sync of a folder returns, its
--- names are on the disk
+-- PATHS: at a path stands what the system tells, and nothing that could be read where it says so; a rename that returns has given the
+-- name, and where the sync of a folder returns, its names are on the disk
 abbrev pub system_paths : PathFacts
-system_paths = record { names = λ _ _. Unit {0}; renames = λ _ _. Unit {0}; syncs = λ _. Unit {0} }
+system_paths = record { names = λ _ _. Unit {0}; lacks = λ _. Unit {0}; renames = λ _ _. Unit {0}; syncs = λ _. Unit {0} }
 
 -- CALLS: a read or a sync that the system refuses can't be done, and where it says that memory was refused, memory was
 -- refused

@@ -1,8 +1,8 @@
 //! The file beside another, which is to take its name: it is made, written, synced and renamed, each by the type of what came before.
 
-ghost use Rattle.std.specs.Prelude.{[], IfOk, IfSome, IsTrue, OnOk, string_bytes};
+ghost use Rattle.std.specs.Prelude.{[], IfErr, IfOk, IfSome, IsTrue, OnOk, string_bytes};
 ghost use Rattle.system_io.specs.BesideFiles.{IsMadeBeside, IsSyncedFrom, IsWrittenBeside};
-ghost use Rattle.system_io.specs.Handles.{IsOwnNew, KeepsBytes, Stays};
+ghost use Rattle.system_io.specs.Handles.{IsOwnNew, KeepsBytes, KeepsMade, Stays};
 ghost use Rattle.system_io.specs.Places.{IsBesideAt};
 
 use crate::handles::{FileHandle, FilePaths, own_at};
@@ -73,6 +73,8 @@ fn take_own<H: FileHandle>(file: &mut H) -> io::Result<bool>
     ensures own { IfOk result (λ is. IsTrue is → (H.facts file.new).is_locked × (H.facts file.new).is_linked) }
     ensures same { KeepsBytes (H.facts file.old) (H.facts file.new) }
     ensures stays { Stays (H.facts file.old) (H.facts file.new) }
+    ensures given { IfOk result (λ is. IsTrue is → KeepsMade (H.facts file.old) (H.facts file.new)) }
+    ensures failed { IfErr result (λ _. KeepsMade (H.facts file.old) (H.facts file.new)) }
 {
     Ok(file.take_lock()? && file.is_linked()?)
 }

@@ -1,8 +1,10 @@
 //! Open files, and the calls for paths: what each of them achieves. What works over these traits knows nothing else of a file.
 
-ghost use Rattle.std.specs.Prelude.{◌≡◌, ◌++◌, ℕ, List, [], false, true, IfOk, IfSome, IsTrue, OnOk};
+ghost use Rattle.std.specs.Prelude.{◌≡◌, ◌++◌, ℕ, List, [], false, true, IfErr, IfOk, IfSome, IsTrue, OnOk};
 ghost use Rattle.std.specs.Fs.{asks_create, asks_create_new, asks_truncate};
-ghost use Rattle.system_io.specs.Handles.{CanRemove, HandleFacts, IsOwnAt, KeepsBytes, PathFacts, StandsAt, Stays};
+ghost use Rattle.std.specs.IoError.{error_kind};
+ghost use Rattle.std.specs.declared.io.ErrorKind.TheVariants.{NotFound};
+ghost use Rattle.system_io.specs.Handles.{CanRemove, HandleFacts, IsOwnAt, KeepsBytes, KeepsMade, PathFacts, StandsAt, Stays};
 
 use crate::opening::open_regular;
 use std::fs::{File, Metadata, OpenOptions, TryLockError};
@@ -28,19 +30,23 @@ pub trait FileHandle {
     /// Writes bytes behind those that it holds, all of them.
     fn write_whole(&mut self, bytes: &[u8]) -> io::Result<()>
         ensures whole { OnOk result ((before : List ℕ) → (facts self.old).holds before → (facts self.new).holds (before ++ bytes.now)) }
-        ensures stays { Stays (facts self.old) (facts self.new) };
+        ensures stays { Stays (facts self.old) (facts self.new) }
+        ensures made { KeepsMade (facts self.old) (facts self.new) };
 
     /// Brings its bytes to the disk.
     fn sync(&mut self) -> io::Result<()>
         ensures synced { OnOk result (facts self.new).is_synced }
         ensures same { KeepsBytes (facts self.old) (facts self.new) }
-        ensures stays { Stays (facts self.old) (facts self.new) };
+        ensures stays { Stays (facts self.old) (facts self.new) }
+        ensures made { KeepsMade (facts self.old) (facts self.new) };
 
-    /// Locks it, if no other process has. Whether this one has its lock now.
+    /// Locks it, if no other process has. Whether this one has its lock now. One that another has locked no longer counts as made.
     fn take_lock(&mut self) -> io::Result<bool>
         ensures locked { IfOk result (λ is. IsTrue is → (facts self.new).is_locked) }
         ensures same { KeepsBytes (facts self.old) (facts self.new) }
-        ensures stays { Stays (facts self.old) (facts self.new) };
+        ensures stays { Stays (facts self.old) (facts self.new) }
+        ensures given { IfOk result (λ is. IsTrue is → KeepsMade (facts self.old) (facts self.new)) }
+        ensures failed { IfErr result (λ _. KeepsMade (facts self.old) (facts self.new)) };
 
     /// Which file it is.
     fn number(&self) -> io::Result<FileNumber>
@@ -67,11 +73,17 @@ pub trait FilePaths {
     /// Opens a regular file as it stands, to be locked.
     fn open_to_lock(&self, path: &str) -> io::Result<Self::Handle>;
 
-    /// Opens the regular file at a path to be read, and tells how many bytes it has. A link is followed.
-    fn open_to_read(&self, path: &str) -> io::Result<(Self::Handle, u64)>;
+    /// Opens the regular file at a path to be read, and tells how many bytes it has. A link is followed. The error is `NotFound` where
+    /// nothing stands there, or the link leads nowhere.
+    fn open_to_read(&self, path: &str) -> io::Result<(Self::Handle, u64)>
+        ensures { IfErr result (λ e. error_kind e ≡ NotFound → (facts self.now).lacks path.now) };
 
     /// The number of the regular file at a path; none where something else stands there. The error is `NotFound` where nothing does.
-    fn number_at(&self, path: &str) -> io::Result<Option<FileNumber>>
+    fn number_at(&self, path: &str) -> io::Result<Option<FileNumber>>;
+
+    /// The same, looked at while this process has the lock of an open file. What was looked at before the lock may be gone since.
+    fn number_behind_lock(&self, file: &Self::Handle, path: &str) -> io::Result<Option<FileNumber>>
+        requires { (Self.Handle.facts file.now).is_locked }
         ensures { IfOk result (λ got. IfSome got ((facts self.now).names path.now)) };
 
     /// Removes an open file from its path.
@@ -181,6 +193,10 @@ impl<R: Files<File = File>> FilePaths for R {
         Ok(named.is_file().then_some(number_of(&named)))
     }
 
+    fn number_behind_lock(&self, _file: &File, path: &str) -> io::Result<Option<FileNumber>> {
+        self.number_at(path)
+    }
+
     fn remove_at(&self, _file: &File, path: &str) -> io::Result<()> {
         fs::remove_file(self, path)
     }
@@ -194,12 +210,13 @@ impl<R: Files<File = File>> FilePaths for R {
     }
 }
 
-/// Whether an open file is the regular file at a path, and no other that a link leads to. It isn't where another process has removed it.
+/// Whether a locked file is the regular file at a path, and no other that a link leads to. It isn't where another process has removed it.
 pub(crate) fn stands_at<P: FilePaths>(paths: &P, file: &P::Handle, path: &str) -> io::Result<bool>
+    requires { (P.Handle.facts file.now).is_locked }
     ensures { IfOk result (λ is. IsTrue is → StandsAt (P.Handle.facts file.now) (P.facts paths.now) path.now) }
 {
     let open = file.number()?;
-    match paths.number_at(path) {
+    match paths.number_behind_lock(file, path) {
         Ok(Some(named)) => Ok(named == open),
         Ok(None) => Ok(false),
         Err(error) if error.kind() == io::ErrorKind::NotFound => Ok(false),

@@ -7,8 +7,8 @@
 //! `specs/Premises.antt` says what is trusted of the system. `SystemFile` is `CallLog` over the system's calls (`FileCalls`): what a
 //! start finds follows from the calls that it made and their results. They work over `FileHandle` and `FilePaths`, which say of an open
 //! file that it was written, synced or locked, and what stands at a path; the system's instances of these are a call each (`handles`).
-//! `remove_at` asks that this process made the file there, or has its lock and it stands there; what `lock_at` locks stands there, by
-//! device and number.
+//! `remove_at` asks that this process made the file there, and wasn't told since that another has locked it, or has its lock and it
+//! stands there; what `lock_at` locks stands there, by device and number, which are looked at behind the lock.
 //! Of the system's files what is no regular one is refused before it is opened (`opening`), and what is opened to be written is
 //! made where nothing stands (`beside_file`). A `Port` sends each datagram to each of its addresses in turn, and a send that fails
 //! keeps none of the others back. Where nothing came in time, its traffic has the wait that was asked for (`Quiet`). `UdpPort` is
@@ -52,8 +52,9 @@
 //! - CLAIM: `RecordStore::put_all`, clause `refused`: where memory alone was refused, a store goes on as it was, and the batch comes back.
 //! - CLAIM: `Host::lock`, clauses `given`, `cause`; `SystemHost::lock`, clause `at`: the file that is locked is the one at the path.
 //! - CLAIM: `SystemCalls::write`, clause `beside`; `SystemCalls::sync`, clause `synced`; `SystemCalls::rename`, clause `renamed`;
-//!   `SystemCalls::sync_folder`, clause `synced`: at `Ok` all bytes stand in a new and locked file beside, that same file was synced, that
-//!   same file got the name, and the folder was synced, by what `FileHandle` and `FilePaths` say of each call.
+//!   `SystemCalls::sync_folder`, clause `synced`: at `Ok` all bytes stand in a new and locked file beside, that same file was synced, the
+//!   file at its path got the name, and the folder was synced, by what `FileHandle` and `FilePaths` say of each call.
+//! - CLAIM: `SystemCalls::read`, clause `nothing`: `Ok(None)` comes only where opening says that nothing is at the path.
 #![tactic(auto)]
 
 mod beside_file;

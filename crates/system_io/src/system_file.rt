@@ -1,7 +1,8 @@
 //! A file of the system, and the file beside it.
 
 ghost use Rattle.std.specs.IoError.{error_kind, raw_os_error};
-ghost use Rattle.std.specs.Prelude.{◌∷◌, [], IfErr, IfOk, OnOk, string_bytes};
+ghost use Rattle.std.specs.Prelude.{◌≡◌, ◌≤◌, ◌∷◌, [], IfErr, IfNone, IfOk, IfSome, IsTrue, OnOk, length, string_bytes};
+ghost use Rattle.std.specs.declared.io.ErrorKind.TheVariants.{NotFound};
 ghost use Rattle.system_io.specs.Places.{AreFor, IsAtPath};
 ghost use Rattle.system_io.specs.Reading.{IsAbsentOr};
 
@@ -47,8 +48,10 @@ fn unless_absent(error: io::Error) -> Result<Option<Vec<u8>>, ReadFault>
 }
 
 /// Whether an error is that nothing was found at a path.
-fn is_absent(error: &io::Error) -> bool {
-    error.kind() == io::ErrorKind::NotFound
+fn is_absent(error: &io::Error) -> bool
+    ensures { IsTrue result → error_kind error.now ≡ NotFound }
+{
+    matches!(error.kind(), io::ErrorKind::NotFound)
 }
 
 impl<'a, R, W> SystemCalls<'a, R, W>
@@ -122,7 +125,9 @@ where
     }
 
     /// Opens the file to be read. One that got the name just behind the first try is opened by the second.
-    fn open(&self) -> io::Result<(R::Handle, u64)> {
+    fn open(&self) -> io::Result<(R::Handle, u64)>
+        ensures { IfErr result (λ e. error_kind e ≡ NotFound → (R.facts self.now.rt.now).lacks (string_bytes self.now.path)) }
+    {
         match self.rt.open_to_read(self.path.as_str()) {
             Err(error) if is_absent(&error) && self.is_there() => {
                 self.rt.open_to_read(self.path.as_str())
@@ -133,7 +138,9 @@ where
 
     /// Why the file wasn't opened, which is told, or that nothing stands at its path. A link that leads nowhere, as to a disk that isn't
     /// mounted, stands there, and can't be read.
-    fn unless_none_stands(&mut self, error: io::Error) -> Result<(), ReadFault> {
+    fn unless_none_stands(&mut self, error: io::Error) -> Result<(), ReadFault>
+        ensures { OnOk result (error_kind error ≡ NotFound) }
+    {
         if !is_absent(&error) {
             self.tell(&error);
             return Err(unopened(error));
@@ -155,15 +162,22 @@ where
     W: Write + Copy + Drop,
 {
     ghost use Rattle.std.specs.IoError.{error_kind};
-    ghost use Rattle.system_io.specs.FileCalls.{Failed, RenameFailed, Renamed, SyncedFile, SyncedFolder, Wrote, call_by_answer};
+    ghost use Rattle.system_io.specs.FileCalls.{Failed, RenameFailed, Renamed, SyncedFile, SyncedFolder, Wrote, call_by_answer, read_call};
     ghost use Rattle.system_io.specs.Histories.{Passes};
     ghost use Rattle.system_io.specs.Premises.{system_calls};
     ghost use Rattle.system_io.specs.Reading.{read_fault_of};
     ghost use Rattle.system_io.specs.SystemFiles.{HasName, HasSynced, HasWritten};
+    ghost use Rattle.system_io.specs.declared.reading.ReadFault.{ReadFault};
 
     ghost facts = { λ _. system_calls };
 
-    fn read(&mut self, alloc: Global) -> Result<Option<Vec<u8>>, ReadFault> {
+    fn read(&mut self, alloc: Global) -> Result<Option<Vec<u8>>, ReadFault>
+        ensures short { IfOk result (λ got. IfSome got (λ v. length v.items ≤ 8217)) }
+        ensures made { Passes system_calls.made system_calls.made (read_call result ∷ []) }
+        ensures cause { IfErr result system_calls.fails }
+        ensures still { (fault : ReadFault) → system_calls.fails fault → system_calls.fails fault }
+        ensures nothing { IfOk result (λ got. IfNone got ((R.facts self.old.rt.now).lacks (string_bytes self.old.path))) }
+    {
         let (mut file, length) = match self.open() {
             Ok(opened) => opened,
             Err(error) => {
