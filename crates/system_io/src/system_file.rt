@@ -145,7 +145,7 @@ where
             self.tell(&error);
             return Err(unopened(error));
         }
-        if self.rt.number_at(self.path.as_str()).is_ok() {
+        if matches!(self.rt.number_at(self.path.as_str()), Ok(None)) {
             self.tell(&error);
             return Err(ReadFault::Unreadable);
         }
