@@ -20,7 +20,7 @@ pub struct Keys {
     pub second: [u8; 32],
 }
 
-/// The same keys, of which each is ready to make tags. Contracts see `Keys`.
+/// Keys of which each is ready to make tags. Contracts see `Keys`.
 #[derive(Drop)]
 pub(crate) struct MacKeys {
     first: MacKey,
