@@ -1,15 +1,15 @@
 //! Systems with keys and files of keys: values from outside, and what is passed on of each kind of datagram.
 
 use crate::tests::comparing::{check_bytes, check_same};
+use crate::tests::source_port::system_of;
 use sealed_port::{KeyFault, KeyedSystem, Keys, MacKey};
 use std::alloc::Global;
 use std::net::{IpAddr, Ipv4Addr, SocketAddr};
 use std::process::Abort;
 use std::time::Duration;
-use system_fakes::{MemoryDisk, MemoryInput};
 use system_io::NO_TAG;
 use timeline::System;
-use timeline_fakes::{Binds, KeptStart, MemorySystem, MemoryTimeline, Recorded, Turn, Turns};
+use timeline_fakes::{MemoryTimeline, Recorded, Turn};
 
 /// A row of RFC 4231: a key in hexadecimal digits, a text, and its HMAC.
 struct Vector {
@@ -118,31 +118,6 @@ fn keys(rt: &impl Abort, is_first: bool) -> Keys {
     }
 }
 
-/// A system in memory, of whose port these calls that receive come.
-fn memory<'a>(turns: &'a [Turn<'a>]) -> MemorySystem<'a> {
-    MemorySystem {
-        disk: MemoryDisk {
-            files: &[],
-            modes: &[],
-            folders: &[],
-            failing: &[],
-        },
-        input: MemoryInput {
-            bytes: &[],
-            fails: false,
-        },
-        kept: &[],
-        elsewhere: KeptStart {
-            bytes: None,
-            outcomes: &[],
-            reads_fail: false,
-        },
-        binds: Binds::Anywhere,
-        own: None,
-        turns: Turns::Each(turns),
-    }
-}
-
 /// What a port of a system with these keys passes on of a datagram, both where it waits and where it waits for a time.
 fn check_passed_on(rt: &impl Abort, alloc: Global, datagram: &[u8], keys: &Keys, wanted: &[u8]) {
     let from = SocketAddr::new(IpAddr::V4(Ipv4Addr::new(127, 0, 0, 1)), 7702);
@@ -150,7 +125,7 @@ fn check_passed_on(rt: &impl Abort, alloc: Global, datagram: &[u8], keys: &Keys,
         Turn::Comes(Some(from), datagram),
         Turn::Comes(Some(from), datagram),
     ];
-    let below = memory(&turns);
+    let below = system_of("", false, &turns);
     let system = KeyedSystem::over(&below, keys);
     let mut timeline = MemoryTimeline::new(alloc, None);
     let bound = system.bind(&mut timeline, alloc, "127.0.0.1:7701", &[]);
@@ -225,7 +200,7 @@ fn opens_nothing_with_another_tag(rt: HostRuntime) {
 /// What a system with keys sends is opened by either key of another, and not where that has other keys.
 #[test]
 fn systems_open_what_a_system_seals(rt: HostRuntime) {
-    let below = memory(&[]);
+    let below = system_of("", false, &[]);
     let system = KeyedSystem::over(&below, &keys(&rt, true));
     let mut timeline = MemoryTimeline::new(rt.alloc(), None);
     let to = ["127.0.0.1:7702"];
@@ -251,7 +226,7 @@ fn systems_open_what_a_system_seals(rt: HostRuntime) {
 /// 48 bytes go out, and of 49 it is noted that they don't.
 #[test]
 fn a_system_leaves_out_49_bytes(rt: HostRuntime) {
-    let below = memory(&[]);
+    let below = system_of("", false, &[]);
     let system = KeyedSystem::over(&below, &keys(&rt, true));
     let mut timeline = MemoryTimeline::new(rt.alloc(), None);
     let to = ["127.0.0.1:7702"];
