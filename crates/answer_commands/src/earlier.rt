@@ -135,5 +135,5 @@ pub(crate) fn note_known<S: System>(
 {
     let count = count_moves(alloc, system, timeline, records, path, stamp);
     let line = earlier_line(stamp, count);
-    system.note(timeline, line.as_str());
+    system.note(timeline, &[line.as_str()]);
 }

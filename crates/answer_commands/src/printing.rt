@@ -51,7 +51,7 @@ fn note_lost<S: System>(system: &S, timeline: &mut S::Timeline) -> u8
     ensures made { Adds (S.outside system.now) timeline.old timeline.new (Noted output_lost ∷ []) }
     ensures status { result ≡ 1 }
 {
-    system.note(timeline, "the output can't be written");
+    system.note(timeline, &["the output can't be written"]);
     1
 }
 

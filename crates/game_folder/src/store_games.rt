@@ -266,7 +266,7 @@ impl<'f, S: System> Games<S> for StoreGames<'f, S> {
                 Err(Uncommitted::OutOfMemory)
             }
             Err(PutFault::Failed) => {
-                system.note(timeline, STORE_LOST);
+                system.note(timeline, &[STORE_LOST]);
                 self.loss = Some(Loss::OfStore);
                 Err(Uncommitted::StoreLost)
             }

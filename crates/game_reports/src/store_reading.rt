@@ -244,7 +244,7 @@ pub fn open_folder<'a, S: System>(
             entries,
         }),
         Err(ReadFault::Unreadable) => {
-            system.note(timeline, store.unread.as_str());
+            system.note(timeline, &[store.unread.as_str()]);
             Err(Refusal::Store)
         }
         Err(ReadFault::OutOfMemory) => Err(Refusal::Memory),

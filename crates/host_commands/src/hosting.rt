@@ -78,7 +78,7 @@ fn go_on_unlogged<'a, S: System, G: Games<S> + Drop>(
     ensures made { GoesOnIn (S.outside system.now) (G.facts system.now) n at.old port.old timeline.old timeline.new result }
     ensures done { IsOk result }
 {
-    system.note(timeline, LOG_LOST);
+    system.note(timeline, &[LOG_LOST]);
     at.silence();
     serve(at, system, timeline, port, n)
 }

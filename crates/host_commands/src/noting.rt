@@ -15,6 +15,6 @@ pub fn note_line<S: System>(
     ensures { Adds (S.outside system.now) timeline.old timeline.new (noted_if line) }
 {
     if let Ok(line) = line {
-        system.note(timeline, line.as_str());
+        system.note(timeline, &[line.as_str()]);
     }
 }

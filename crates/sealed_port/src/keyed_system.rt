@@ -178,8 +178,8 @@ impl<'a, S: System> System for KeyedSystem<'a, S> {
         self.system.flush(timeline, to)
     }
 
-    fn note(&self, timeline: &mut Self::Timeline, line: &str) {
-        self.system.note(timeline, line);
+    fn note(&self, timeline: &mut Self::Timeline, parts: &[&str]) {
+        self.system.note(timeline, parts);
     }
 
     fn bind(
@@ -249,7 +249,7 @@ impl<'a, S: System> System for KeyedSystem<'a, S> {
         ensures long { 48 < length bytes.now → (result ≡ Err Failed) × LeavesItOut (S.outside self.now.system) timeline.old timeline.new port.old port.new }
     {
         if bytes.len() > MOST_BYTES {
-            self.system.note(timeline, LEFT_OUT);
+            self.system.note(timeline, &[LEFT_OUT]);
             port.left_out = port.left_out.saturating_add(1);
             return Err(PortFault::Failed);
         }

@@ -67,7 +67,7 @@ fn note_request<S: System>(
         return;
     }
     match request_line(asked.alloc, request, response) {
-        Ok(line) => system.note(timeline, line.as_str()),
+        Ok(line) => system.note(timeline, &[line.as_str()]),
         Err(_) => {}
     }
 }

@@ -118,7 +118,7 @@ fn note_unbound<S: System>(
     ensures { AddsSome (S.outside system.now) timeline.old timeline.new (MayNote (unbound_front address.now)) }
 {
     match unbound_line(alloc, address, error) {
-        Ok(line) => system.note(timeline, line.as_str()),
+        Ok(line) => system.note(timeline, &[line.as_str()]),
         Err(_) => {}
     }
 }

@@ -116,7 +116,7 @@ fn note_lost<S: System>(alloc: Global, system: &S, timeline: &mut S::Timeline, e
     ensures { AddsSome (S.outside system.now) timeline.old timeline.new (MayNote lost_front) }
 {
     match lost_line(alloc, error) {
-        Ok(line) => system.note(timeline, line.as_str()),
+        Ok(line) => system.note(timeline, &[line.as_str()]),
         Err(_) => {}
     }
 }

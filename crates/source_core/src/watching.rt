@@ -151,7 +151,7 @@ fn said_in(report: Report) -> (ArbiterId, u32) {
 fn note_line<S: System>(system: &S, timeline: &mut S::Timeline, line: &str)
     ensures { AddsSome (S.outside system.now) timeline.old timeline.new OnlyNotes }
 {
-    system.note(timeline, line);
+    system.note(timeline, &[line]);
 }
 
 impl<'w> Watch<'w> {

@@ -133,8 +133,8 @@ pub trait Host {
         ensures held { IfOk result (λ entries. (stores self.now).holds db.items log.items (records_of entries.items)) }
         ensures cause { IfErr result ((stores self.now).withholds db.items log.items) };
 
-    /// Tells whoever runs the program a line, which it ends. A line that can't be told is left out.
-    fn note(&self, line: &str);
+    /// Notes a line of these parts for whoever runs the program, and ends it. A line that can't be noted is left out. It takes no memory.
+    fn note(&self, parts: &[&str]);
 
     /// A host whose ports and files have stated places gives each of them one place.
     ghost one: { (h : Self) → (facts h).is_told ≡ true → PlacesOne (facts h) };

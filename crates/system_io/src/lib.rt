@@ -71,6 +71,7 @@ mod line_disk;
 mod line_reader;
 mod lock_file;
 mod locked;
+mod note_line;
 mod notes;
 mod opening;
 mod output;

@@ -2,6 +2,7 @@
 
 use crate::host::{BindFault, Host, LockFault};
 use crate::lock_file::{LockFile, fault_beside};
+use crate::note_line::NoteLine;
 use crate::notes::tell_refused;
 use crate::record_store::{Entry, StoreFault, Stores};
 use crate::system_file::SystemFile;
@@ -137,8 +138,12 @@ where
         self.stores.read(alloc, db, log)
     }
 
-    fn note(&self, line: &str) {
-        let mut notes = self.notes;
-        let _told = writeln!(notes, "{line}");
+    fn note(&self, parts: &[&str]) {
+        let mut line = NoteLine::over(self.notes);
+        for part in parts {
+            line.push(part.as_bytes());
+        }
+        line.push(b"\n");
+        line.write();
     }
 }

@@ -40,7 +40,7 @@ fn note_if_none<S: System>(
     let Ok(line) = format!(in alloc; "no table in {folder}") else {
         return;
     };
-    system.note(timeline, line.as_str());
+    system.note(timeline, &[line.as_str()]);
 }
 
 /// The names of the wanted table files of a folder, in rising order. Wanted are those with names of table files, and with a

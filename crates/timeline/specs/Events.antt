@@ -71,6 +71,12 @@ pub data Event : Type 0 where
   -- the records of these stamps were committed together to the store at this path, or none was
   Committed : (path : List ℕ) (records : List (List ℕ × StoredRecord)) (is_done : Bool) → Event
 
+-- the line of these parts
+abbrev pub line_of : List (List ℕ) → List ℕ
+line_of [] = []
+line_of (part ∷ []) = part
+line_of (part ∷ next ∷ parts) = part ++ line_of (next ∷ parts)
+
 -- ---- what a call's result says
 
 -- a line feed is among these

@@ -243,8 +243,8 @@ where
         }
     }
 
-    fn note(&self, _timeline: &mut Self::Timeline, line: &str) {
-        self.host.note(line);
+    fn note(&self, _timeline: &mut Self::Timeline, parts: &[&str]) {
+        self.host.note(parts);
     }
 
     fn bind(

@@ -10,7 +10,7 @@ ghost use Rattle.system_io.specs.LineReaders.{ReadsIfAny};
 ghost use Rattle.system_io.specs.Outputs.{WritesFront};
 ghost use Rattle.system_io.specs.Records.{AreSame, GivesBack, IsSettled, records_of, with_all};
 ghost use Rattle.timeline.specs.Events.{FileOpened, FileRead, FileSought, FileWithModeRead, Flushed, FolderListed, Found, FromFile, FromInput, InputRead, LinesOpened, Locked, Noted, PortBound, Put, RecordSought, Refused, StoreOpened};
-ghost use Rattle.timeline.specs.Events.{IsWritten, by_result, bytes_found, bytes_read, came_in_time, came_or_missed, commit_event, done_by, found_by, is_done, line_event, mode_read, names_read};
+ghost use Rattle.timeline.specs.Events.{IsWritten, by_result, bytes_found, bytes_read, came_in_time, came_or_missed, commit_event, done_by, found_by, is_done, line_event, line_of, mode_read, names_read};
 ghost use Rattle.timeline.specs.Outsides.{Adds, AddsSome, AreNamed, FailsOrIsKnown, HeardNothing, IsConsistent, LeavesBatchOrNot, LeavesOldOrNew, Outside, SendsToSame, sent_by};
 
 use crate::stream::Stream;
@@ -190,9 +190,9 @@ pub trait System {
         ensures stuck { OnErr result ((outside self.now).output timeline.new to).stuck }
         ensures made { Adds (outside self.now) timeline.old timeline.new (by_result result (λ _. Flushed to) (Refused to) ∷ []) };
 
-    /// Notes a line for whoever runs the program, and ends it. A line that can't be noted is left out.
-    fn note(&self, timeline: &mut Self::Timeline, line: &str)
-        ensures made { Adds (outside self.now) timeline.old timeline.new (Noted line.now ∷ []) };
+    /// Notes a line of these parts for whoever runs the program, and ends it. A line that can't be noted is left out. It takes no memory.
+    fn note(&self, timeline: &mut Self::Timeline, parts: &[&str])
+        ensures made { Adds (outside self.now) timeline.old timeline.new (Noted (line_of (map (λ s. s.now) parts.now)) ∷ []) };
 
     /// A port that is bound to an address and sends to those whom these words name. Among these `sender` stands for the address from
     /// which the last datagram came.

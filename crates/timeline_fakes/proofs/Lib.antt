@@ -3,3 +3,4 @@ pub mod SendLaws
 pub mod FeedLaws
 pub mod WordLaws
 pub mod CommitLaws
+pub mod NoteLaws

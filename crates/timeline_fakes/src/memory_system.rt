@@ -456,8 +456,8 @@ impl<'a> System for MemorySystem<'a> {
         Ok(())
     }
 
-    fn note(&self, timeline: &mut MemoryTimeline, line: &str) {
-        let made = noted(timeline.alloc(), line);
+    fn note(&self, timeline: &mut MemoryTimeline, parts: &[&str]) {
+        let made = noted(timeline.alloc(), parts);
         timeline.keep(made);
     }
 

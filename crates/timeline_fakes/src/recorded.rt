@@ -233,10 +233,19 @@ pub(crate) fn wrote(alloc: Global, to: Stream, bytes: &[u8]) -> Made
     Ok(Recorded::Wrote { to, bytes })
 }
 
-pub(crate) fn noted(alloc: Global, line: &str) -> Made
-    ensures { IfOk result (λ made. event_of made ≡ event.Noted line.now) }
+/// The line of these parts.
+#[tactic(auto, using(crate::proofs::NoteLaws::is_line_of))]
+fn line_of(alloc: Global, parts: &[&str]) -> Result<Vec<u8>, AllocError>
+    ensures { IfOk result (λ line. line.items ≡ event.line_of (map (λ s. s.now) parts.now)) }
 {
-    let line = Vec::from_slice(alloc, line.as_bytes())?;
+    let line = parts.concat(alloc)?;
+    Ok(line.into_bytes())
+}
+
+pub(crate) fn noted(alloc: Global, parts: &[&str]) -> Made
+    ensures { IfOk result (λ made. event_of made ≡ event.Noted (event.line_of (map (λ s. s.now) parts.now))) }
+{
+    let line = line_of(alloc, parts)?;
     Ok(Recorded::Noted { line })
 }
 
